@@ -28,6 +28,7 @@ static struct {
 /* A function's number names one of these in the bits above its low 8. */
 static int (*const crates[])(struct frame *) = {
     counts_call,
+    layout_call,
 };
 
 /* The asker sees an answer missing; the words say why. */
@@ -117,6 +118,14 @@ static void give_frame(const struct frame *frame)
     give(frame->lengths, sizeof frame->lengths);
     for (int i = 0; i < STRINGS; i++)
         give(frame->strings[i], frame->lengths[i]);
+}
+
+int answer(struct frame *frame, u64 result)
+{
+    u64 *n = frame->numbers;
+    n[0] = result;
+    n[1] = n[2] = n[3] = n[4] = n[5] = n[6] = n[7] = 0;
+    return 1;
 }
 
 static void call(struct frame *frame)

@@ -36,14 +36,6 @@ extern _Bool counts_raises(u32 v, u32 s);
 extern u64 counts_remainder(u64 x, u64 s);
 extern u64 counts_quotient(u64 x, u64 s);
 
-static int answer(struct frame *frame, u64 result)
-{
-    u64 *n = frame->numbers;
-    n[0] = result;
-    n[1] = n[2] = n[3] = n[4] = n[5] = n[6] = n[7] = 0;
-    return 1;
-}
-
 /* A place crosses as three numbers, since with its seven fields too many would
    be needed: padding below t, a below e, and a bit for each yes or no. */
 static int answer_place(struct frame *frame, struct place place)

@@ -29,7 +29,7 @@ pub type Checked = Result<(), String>;
 type Check = Box<dyn FnOnce(Frame) -> Checked>;
 
 /// A call or an answer.
-#[derive(Debug, Default, PartialEq, Eq)]
+#[derive(Clone, Debug, Default, PartialEq, Eq)]
 pub struct Frame {
     /// A call has the function's number here, then its plain arguments; an
     /// answer has the results.

@@ -13,6 +13,9 @@ pub const HEADERS: [u32; 9] = [16, 24, 0, 1, 63, 64, 4_096, HALF, u32::MAX];
 /// The middle of the number range, from which on a difference means behind.
 pub const HALF: u32 = 1 << 31;
 
+/// Lost counts at the edges, and one that no exchange of bytes leaves as it is.
+pub const LOST: [u32; 8] = [0, 1, 255, 256, 0x0102_0304, HALF - 1, HALF, u32::MAX];
+
 /// The values and their neighbours, each once.
 pub fn around(values: impl IntoIterator<Item = u32>) -> Vec<u32> {
     let mut all: Vec<u32> = values
@@ -37,6 +40,23 @@ pub fn parts() -> Vec<u32> {
 /// Every allowed P, and numbers of producers that aren't.
 pub fn producers() -> Vec<u32> {
     around((1..=8).chain([256, HALF, u32::MAX]))
+}
+
+/// Lengths of lent memory: all the small ones, and those around every allowed S
+/// and above. Of the last two, the low 16 bits are an allowed S.
+pub fn lengths() -> Vec<u32> {
+    let above = [96, 192, 8_192, 65_536, 65_536 + 64, 65_536 + 4_096];
+    let mut all: Vec<u32> = around(SIZES.into_iter().chain(above));
+    all.extend(0..=70);
+    all.sort_unstable();
+    all.dedup();
+    all
+}
+
+/// Positions at and next to the bounds of sub-buffers, and of their halves, close
+/// to zero and to the middle of the range.
+pub fn positions(size: u32) -> Vec<u32> {
+    counts(&[size / 2, size])
 }
 
 /// Every power of two in 64 bits and its neighbours, zero among them.
@@ -86,6 +106,22 @@ mod tests {
         let counts = counts(&[64]);
         for edge in [0, 1, 63, 65, HALF - 1, HALF, HALF + 63, u32::MAX] {
             assert!(counts.contains(&edge), "{edge}");
+        }
+    }
+
+    #[test]
+    fn lengths_stand_on_both_sides_of_every_size() {
+        let lengths = lengths();
+        for length in (0..=70).chain([127, 128, 129, 4_095, 4_096, 4_097, 65_600]) {
+            assert!(lengths.contains(&length), "{length}");
+        }
+    }
+
+    #[test]
+    fn positions_stand_on_and_off_the_boundary() {
+        let positions = positions(64);
+        for position in [0, 1, 32, 64, 65, HALF - 64, HALF, u32::MAX - 63, u32::MAX] {
+            assert!(positions.contains(&position), "{position}");
         }
     }
 

@@ -14,3 +14,5 @@ pub mod edges;
 pub mod layout;
 /// Random arguments, the same ones in every run.
 pub mod random;
+/// How a comparison ends, and what it says of the cases it met.
+pub mod report;

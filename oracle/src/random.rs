@@ -38,6 +38,11 @@ impl Random {
         ((u64::from(self.any()) * u64::from(bound)) >> 32) as u32
     }
 
+    /// A number of bytes, each any at all.
+    pub fn bytes(&mut self, length: u32) -> Vec<u8> {
+        (0..length).map(|_| self.word() as u8).collect()
+    }
+
     /// One of the values given, of which there is at least one.
     pub fn pick<T: Copy>(&mut self, values: &[T]) -> T {
         values[(self.word() % values.len() as u64) as usize]

@@ -115,6 +115,12 @@ fn a_position_within_a_sub_buffer_is_refused() {
     for change in [(8, 1), (8, 32), (8, 63)] {
         assert_eq!(refusal(&[change]), 14, "{change:?}");
     }
+    let double = |byte| {
+        let mut part = [worked(), worked()].concat();
+        part[8] = byte;
+        decode(&part).err()
+    };
+    assert_eq!([64, 128].map(double), [Some(14), None]);
     assert_eq!(laying_refusal(&[0; 4], 65, 64), 14);
     assert_eq!(laying_refusal(&[0; 4], 64, 128), 14);
 }
@@ -154,10 +160,7 @@ fn a_run_that_is_empty_or_too_long_is_refused() {
 fn the_decoder_refuses_in_order() {
     let wrong = [(0, 0), (3, 2), (6, 19), (8, 1)];
     let later: [(usize, u8); 2] = [(16, 99), (19, 8)];
-    for (first, number) in (11..)
-        .zip(0..wrong.len())
-        .map(|(number, first)| (first, number))
-    {
+    for (number, first) in (11..).zip(0..wrong.len()) {
         let changes = [&wrong[first..], &later].concat();
         assert_eq!(refusal(&changes), number, "{changes:?}");
     }

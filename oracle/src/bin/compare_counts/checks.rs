@@ -4,6 +4,7 @@
 use oracle::bridge::{Bridge, Checked, Frame};
 use oracle::counts::{self, Place};
 use oracle::edges::HALF;
+use oracle::report::Outcome;
 
 use crate::probe::{self, Answer, Arguments, Function};
 use crate::tally::Tally;
@@ -24,9 +25,9 @@ impl Checks {
     }
 
     /// How many cases were compared, and of which kinds, once all of them agree.
-    pub fn finish(self) -> Result<(u64, Tally), String> {
+    pub fn finish(self) -> Outcome {
         self.bridge.finish()?;
-        Ok((self.cases, self.tally))
+        Ok((self.cases, self.tally.lines()))
     }
 
     /// The sum and the distance of two positions.

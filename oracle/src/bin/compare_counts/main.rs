@@ -10,9 +10,9 @@ use oracle::bridge::{Bridge, Checked};
 use oracle::counts::{self, Place};
 use oracle::edges;
 use oracle::random::Random;
+use oracle::report::{self, Outcome};
 
 use checks::Checks;
-use tally::Tally;
 
 mod checks;
 mod probe;
@@ -22,40 +22,15 @@ const SEED: u64 = 1;
 const ROUNDS: u32 = 2_000_000;
 
 fn main() -> ExitCode {
-    match compare().and_then(|(cases, tally)| report(cases, &tally)) {
-        Ok(()) => ExitCode::SUCCESS,
-        Err(words) => {
-            eprintln!("compare_counts: {words}");
-            ExitCode::FAILURE
-        }
-    }
+    report::end("compare_counts", compare())
 }
 
-fn compare() -> Result<(u64, Tally), String> {
+fn compare() -> Outcome {
     let mut checks = Checks::new(Bridge::start()?);
     edge_cases(&mut checks)?;
     let mut random = Random::new(SEED);
     (0..ROUNDS).try_for_each(|_| round(&mut checks, &mut random))?;
     checks.finish()
-}
-
-/// Prints what occurred; agreement counts only if each kind of case did.
-fn report(cases: u64, tally: &Tally) -> Checked {
-    let lines = tally.lines();
-    for (title, kinds) in &lines {
-        let kinds: Vec<String> = kinds
-            .iter()
-            .map(|(kind, n)| format!("{kind} {n}"))
-            .collect();
-        println!("{title}: {}", kinds.join(", "));
-    }
-    for (title, kinds) in &lines {
-        if let Some((kind, _)) = kinds.iter().find(|(_, n)| *n == 0) {
-            return Err(format!("no case met: {title}: {kind}"));
-        }
-    }
-    println!("compare_counts: {cases} cases agree");
-    Ok(())
 }
 
 fn edge_cases(checks: &mut Checks) -> Checked {

@@ -1,32 +1,11 @@
-//! What the compared cases have met. Agreement on cases that never reach a rule
-//! says nothing about the rule, so each of these must have occurred.
+//! What the compared cases have met.
 
-/// One line of the report: its title, then each kind of case and its number.
-pub type Line = (&'static str, Vec<(&'static str, u64)>);
-
-/// Declares the counts and their report as one, so that no kind of case is
-/// counted and then left out of it.
-macro_rules! tally {
-    ($($title:literal { $($kind:ident: $words:literal,)* })*) => {
-        /// How often each kind of case occurred.
-        ///
-        /// Where S, N and z matter, only a case that a ring can meet counts, one
-        /// with allowed ones. The wrap of a is the exception: no allowed header
-        /// takes a past zero.
-        #[derive(Default)]
-        pub struct Tally {
-            $($(pub $kind: u64,)*)*
-        }
-
-        impl Tally {
-            pub fn lines(&self) -> Vec<Line> {
-                vec![$(($title, vec![$(($words, self.$kind)),*])),*]
-            }
-        }
-    };
-}
-
-tally! {
+oracle::tally! {
+    /// How often each kind of case occurred.
+    ///
+    /// Where S, N and z matter, only a case that a ring can meet counts, one
+    /// with allowed ones. The wrap of a is the exception: no allowed header
+    /// takes a past zero.
     "shape" {
         shape_allowed: "allowed",
         shape_refused: "refused",
