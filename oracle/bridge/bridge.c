@@ -29,10 +29,10 @@ static struct {
 static int (*const crates[])(struct frame *) = {
     counts_call,
     layout_call,
+    ring_call,
 };
 
-/* The asker sees an answer missing; the words say why. */
-_Noreturn static void stop(const char *why)
+_Noreturn void stop(const char *why)
 {
     write(2, why, strlen(why));
     exit(1);

@@ -27,7 +27,11 @@ struct frame {
 /* Makes the frame an answer with this one result. Returns 1. */
 int answer(struct frame *frame, u64 result);
 
+/* Ends the bridge. The asker sees an answer missing; the words say why. */
+_Noreturn void stop(const char *why);
+
 /* One for each crate that is compared. Each does the call that the low 8 bits of
    the function's number name, or returns 0 if there is no such function. */
 int counts_call(struct frame *frame);
 int layout_call(struct frame *frame);
+int ring_call(struct frame *frame);
