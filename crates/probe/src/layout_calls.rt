@@ -1,52 +1,20 @@
 // The functions of `layout`: enums cross as document 01's numbers, a returned part as a copy.
 ghost use mathlib.Core.Path.{_≡_};
-ghost use Prim.Native.Nat.{ℕ};
 ghost use lib.ListN.{length};
 ghost use Rattle.layout.specs.Bytes.{copied};
 ghost use Rattle.layout.specs.Header.{opened, usedSet};
 ghost use Rattle.layout.specs.Part.{decodeOf, layOutOf, layOutBytes, runOf};
 ghost use Rattle.layout.specs.Record.{laidOn};
-ghost use Rattle.probe.specs.Layout.{plain, handed};
+ghost use Rattle.layout.specs.Plain.{plain};
+ghost use Rattle.probe.specs.Layout.{handed};
 use counts::position::Position;
-use layout::part::Decoded;
-use layout::part::LaidOut;
-
-// The decoder's answer on plain numbers: number 0 and the values, or the refusal's number and zeros.
-#[repr(C)]
-pub struct DecodedPlain {
-    pub number: u32,
-    pub position: u32,
-    pub lost: u32,
-    pub used: u32,
-    pub records: usize,
-}
+use layout::plain::DecodedPlain;
 
 #[no_mangle]
 pub extern "C" fn layout_decode(part: &[u8]) -> DecodedPlain
     ensures { λ r. ⌜ r ≡ plain (decodeOf (now (part .entry))) ⌝ }
 {
-    let decoded = layout::part::decode(part);
-    match decoded {
-        Decoded::Part {
-            position,
-            lost,
-            used,
-            records,
-        } => DecodedPlain {
-            number: 0,
-            position: position.0,
-            lost: lost,
-            used: used,
-            records: records,
-        },
-        Decoded::Refused(r) => DecodedPlain {
-            number: layout::refusal::number(r),
-            position: 0,
-            lost: 0,
-            used: 0,
-            records: 0,
-        },
-    }
+    layout::plain::decode_plain(part)
 }
 
 // Copies the run to the front of out, where it fits; answers its length.
@@ -69,11 +37,7 @@ pub extern "C" fn layout_lay_out(run: &[u8], position: u32, lost: u32, part: &mu
     ensures { λ r. ⌜ r ≡ layOutOf (now (run .entry)) position (length (now (part .entry))) ⌝ }
     ensures { λ _. ⌜ now (part .exit) ≡ layOutBytes (now (run .entry)) position lost (now (part .entry)) ⌝ }
 {
-    let answer = layout::part::lay_out(run, Position(position), lost, part);
-    match answer {
-        LaidOut::Done => 0,
-        LaidOut::Refused(r) => layout::refusal::number(r),
-    }
+    layout::plain::lay_out_plain(run, position, lost, part)
 }
 
 #[no_mangle]

@@ -1,0 +1,2 @@
+/* For a compiler that has no headers of its own. */
+#define bool _Bool
