@@ -1,9 +1,11 @@
 /* Whole uninterrupted events through the C interface, to be timed from outside: the same work as the program `bench`. Reads S, N, P, the
  * producer, the payload's length and the number of events from standard input, so that none of them is a constant, and prints the
  * counts and the sum of ring memory. */
-#include <stdio.h>
-
 #include "waxbramble.h"
+
+/* The C library's, declared here so that no header of it is needed. */
+extern int scanf(const char *, ...);
+extern int printf(const char *, ...);
 
 static uint8_t memory[65536], desks[32768], payload[4096];
 
