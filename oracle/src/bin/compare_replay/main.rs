@@ -6,7 +6,10 @@
 //! Before it come, in this order, the build of the program `replay` and
 //! `oracle/bridge/build`.
 
+use std::num::NonZero;
 use std::process::ExitCode;
+use std::sync::atomic::{AtomicUsize, Ordering};
+use std::thread;
 
 use oracle::bridge::Checked;
 use oracle::histories::Shape;
@@ -33,27 +36,43 @@ fn main() -> ExitCode {
 }
 
 fn compare() -> Outcome {
-    let program = Program::find();
     let mut random = Random::new(SEED);
     let mut met = Met::new();
-    for odd in ["", "\n", "new 64 2 1 0"] {
-        check(&program, odd.as_bytes(), &mut met)?;
-    }
+    let mut scripts = ["", "\n", "new 64 2 1 0"].map(Vec::from).to_vec();
     for _ in 0..SCRIPTS {
-        for shape in Shape::all() {
-            let script = script::make(&mut random, &mut met, shape);
-            check(&program, &script, &mut met)?;
-        }
+        scripts.extend(Shape::all().map(|shape| script::make(&mut random, &mut met, shape)));
+    }
+    run_all(&Program::find(), &scripts)?;
+    for script in &scripts {
+        met.script(script, &replay::replay(script));
     }
     met.finish()
 }
 
+/// Runs the scripts, as many at a time as there are processors, until one differs:
+/// most of a run is the program's start.
+fn run_all(program: &Program, scripts: &[Vec<u8>]) -> Checked {
+    let next = AtomicUsize::new(0);
+    let run_some = || {
+        while let Some(script) = scripts.get(next.fetch_add(1, Ordering::Relaxed)) {
+            if let Err(words) = check(program, script) {
+                next.store(scripts.len(), Ordering::Relaxed);
+                return Err(words);
+            }
+        }
+        Ok(())
+    };
+    let runners = thread::available_parallelism().map_or(1, NonZero::get);
+    thread::scope(|scope| {
+        let running: Vec<_> = (0..runners).map(|_| scope.spawn(run_some)).collect();
+        let mut ended = running.into_iter().map(|runner| runner.join());
+        ended.try_for_each(|one| one.expect("a runner panicked"))
+    })
+}
+
 /// What the program prints must be what the oracle prints, byte by byte.
-fn check(program: &Program, script: &[u8], met: &mut Met) -> Checked {
-    let own = replay::replay(script);
-    let first = program.run(script)?;
-    if first.agrees(&own) {
-        met.script(script, &own);
+fn check(program: &Program, script: &[u8]) -> Checked {
+    if program.run(script)?.agrees(&replay::replay(script)) {
         return Ok(());
     }
     Err(shrink::mismatch(program, script)?)
