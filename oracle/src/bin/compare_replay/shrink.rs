@@ -6,7 +6,12 @@ use oracle::replay;
 use crate::program::{Program, Ran};
 
 /// How often the program is run for this.
-const RUNS: u32 = 400;
+const RUNS: u32 = 1_000;
+
+/// A run of each producer.
+const RUN_OF: [&[u8]; 8] = [
+    b"run 0\n", b"run 1\n", b"run 2\n", b"run 3\n", b"run 4\n", b"run 5\n", b"run 6\n", b"run 7\n",
+];
 
 /// The words for a script on which the programs differ, as short as it was found.
 pub fn mismatch(program: &Program, script: &[u8]) -> Result<String, String> {
@@ -16,7 +21,7 @@ pub fn mismatch(program: &Program, script: &[u8]) -> Result<String, String> {
         runs: 0,
     };
     shrinker.cut_behind()?;
-    shrinker.drop_lines()?;
+    while shrinker.drop_lines()? | shrinker.run_steps()? {}
     let script = shrinker.lines.concat();
     let first = program.run(&script)?;
     Ok(words(&script, &first))
@@ -57,8 +62,10 @@ impl<'a> Shrinker<'a> {
     }
 
     /// Drops stretches of lines, ever shorter ones, while the programs differ.
-    fn drop_lines(&mut self) -> Checked {
-        let mut stretch = self.lines.len() / 2;
+    /// Tells whether any was dropped.
+    fn drop_lines(&mut self) -> Result<bool, String> {
+        let length = self.lines.len();
+        let mut stretch = length / 2;
         while stretch > 0 {
             let mut at = 0;
             while at + stretch <= self.lines.len() && self.runs < RUNS {
@@ -70,7 +77,25 @@ impl<'a> Shrinker<'a> {
             }
             stretch /= 2;
         }
-        Ok(())
+        Ok(self.lines.len() < length)
+    }
+
+    /// Makes runs of steps, so that the steps behind them can be dropped. Tells
+    /// whether any was made.
+    fn run_steps(&mut self) -> Result<bool, String> {
+        let mut made = false;
+        for at in 0..self.lines.len() {
+            let run = match self.lines[at] {
+                [b's', b't', b'e', b'p', p @ ..] => RUN_OF.iter().find(|run| run.ends_with(p)),
+                _ => None,
+            };
+            if let Some(run) = run.filter(|_| self.runs < RUNS) {
+                let mut lines = self.lines.clone();
+                lines[at] = run;
+                made |= self.keep_if_differing(lines)?;
+            }
+        }
+        Ok(made)
     }
 
     fn keep_if_differing(&mut self, lines: Vec<&'a [u8]>) -> Result<bool, String> {
