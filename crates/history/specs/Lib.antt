@@ -1,0 +1,5 @@
+pub mod Lists
+pub mod Log
+pub mod History
+pub mod Premise
+pub mod Promise
