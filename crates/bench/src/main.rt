@@ -53,11 +53,8 @@ fn event(start: Ring, p: u32, payload: &[u8], ring: &mut [u8], desks: &mut [u8])
     now
 }
 
-// Hands over a part once the next one is entered.
+// Hands over a part.
 fn drain(start: Ring) -> Ring {
-    if start.write.since(start.read) <= start.size {
-        return start;
-    }
     let got = start.get();
     if got.code != 0 {
         return start;
@@ -91,7 +88,10 @@ fn run(start: Ring, p: u32, payload: &[u8], events: u32, ring: &mut [u8], desks:
     let mut now = start;
     let mut left = events;
     while 0 < left {
-        now = drain(event(now, p, payload, ring, desks));
+        now = event(now, p, payload, ring, desks);
+        if now.size < now.write.since(now.read) {
+            now = drain(now);
+        }
         left -= 1;
     }
     print_line(now.offered as u64);

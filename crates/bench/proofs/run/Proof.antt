@@ -17,6 +17,9 @@ loop-holds c = search needs
 event-requires : tie.Need-event-requires Inv-loop μ-loop
 event-requires c κs = search needs
 
+since-requires : tie.Need-since-requires Inv-loop μ-loop
+since-requires c κs = search needs
+
 drain-requires : tie.Need-drain-requires Inv-loop μ-loop
 drain-requires c κs = search needs
 
@@ -70,6 +73,7 @@ run-spec =
     μ-loop
     loop-holds
     event-requires
+    since-requires
     drain-requires
     sub-left
     loop-less
