@@ -1,0 +1,37 @@
+-- `replay::reading::Reading::letter` meets its contract.
+use Prim.Native.Nat.{_%_}
+use borrow.Author.Tests.{eq-eqb, ne-eqb}
+use Rattle.replay.specs.Reading.{letterOf}
+use borrow.Author.Needs.{needs}
+use Rattle.replay.proofs.reading.Reading.letter.Statement.{statement}
+use Rattle.replay.proofs.reading.Reading.letter.Tie as tie
+
+first-requires : tie.Need-first-requires
+first-requires c κs = search needs
+
+returns : tie.Need-returns
+unfolding letterOf
+returns c = rw (c .before .if1 .taken) (c .first .ensures)
+
+bad-requires : tie.Need-bad-requires
+bad-requires c κs = search needs
+
+returns-2 : tie.Need-returns-2
+unfolding letterOf
+returns-2 c = rw (ne-eqb (c .before .before .before .before .args .self .word) 0 (c .before .before .if1 .left), c .before .if2 .taken) (c .bad .ensures)
+
+bad-requires-2 : tie.Need-bad-requires-2
+bad-requires-2 c κs = search needs
+
+returns-3 : tie.Need-returns-3
+unfolding letterOf
+returns-3 c = let a = c .before .before .before .before .before .before .args in rw (ne-eqb (a .self .word) 0 (c .before .before .before .before .if1 .left), c .before .before .before .if2 .left, ne-eqb (a .self .rest % 256) (a .b) (c .before .if3 .taken)) (c .bad2 .ensures)
+
+returns-4 : tie.Need-returns-4
+unfolding letterOf
+returns-4 c = let a = c .before .before .before .before .before .before .args in rw (ne-eqb (a .self .word) 0 (c .before .before .before .before .if1 .left), c .before .before .before .if2 .left, eq-eqb (a .self .rest % 256) (a .b) (c .before .if3 .left))
+
+pub letter-spec : {M : Type 1} → statement M
+letter-spec =
+    tie.close
+    (tie.spec first-requires returns bad-requires returns-2 bad-requires-2 returns-3 returns-4)
