@@ -5,3 +5,5 @@ pub mod Text
 pub mod TextLaws
 pub mod Program
 pub mod ProgramLaws
+pub mod Line
+pub mod ReadingLaws

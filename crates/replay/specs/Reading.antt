@@ -96,3 +96,8 @@ madeOf word a b c value =
 
 unfoldable pub lineIn : Reading → Line
 lineIn r = cond (r .filled) (cond (eqb (r .count) (numbersOf (r .word))) (madeOf (r .word) (r .a) (r .b) (r .c) (r .value)) Bad) Bad
+
+-- bytes one after the other
+unfoldable pub takeAll : Reading → List ℕ → Reading
+takeAll r [] = r
+takeAll r (b ∷ bs) = takeAll (takeOf r b) bs
