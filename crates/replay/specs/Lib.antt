@@ -7,3 +7,5 @@ pub mod Program
 pub mod ProgramLaws
 pub mod Line
 pub mod ReadingLaws
+pub mod Output
+pub mod OutputLaws

@@ -52,3 +52,8 @@ saidAll s (b ∷ bs) = saidOf s b ++ saidAll (fedOf s b) bs
 -- the end of the input: a last line without a line feed counts
 unfoldable pub lastSaid : State → List ℕ
 lastSaid s = cond (s .play .over) [] (cond (eqb (s .reading .word) 0) [] (toldOf (linedOf s .play)))
+
+-- an input that is read in parts
+unfoldable pub inParts : State → List (List ℕ) → List ℕ
+inParts s [] = lastSaid s
+inParts s (t ∷ ts) = saidAll s t ++ inParts (fedAll s t) ts
