@@ -1,5 +1,5 @@
--- Which text is which line (document 01, "The replay program"): `new S N P start`, `offer p kind L`, `flush p`, `step p`, `run p`, `get`,
--- `put`. Fields are parted by one space, numbers are decimal; kind is at most 255, L at most 65,535, others at most 4,294,967,295.
+-- Which text is which line (document 01, "The replay program"): `new S N P start`, `offer p kind L`, `flush p`, `step p`, `run p`,
+-- `get`, `put`. Fields are parted by one space, numbers are decimal; kind is at most 255, L at most 65,535, others at most 4,294,967,295.
 use Prim.Native.Nat.{ℕ, _+_, _-_, _*_}
 use mathlib.Core.Bool.{Bool, true, false, cond}
 use mathlib.Core.List.{List, [], _∷_}
@@ -61,25 +61,46 @@ number i fs = valueOf (getD fs i [])
 
 -- ---- lines
 
--- the largest 32-bit number
+-- the largest 32-bit number, and the words in ASCII
 abbrev pub most : ℕ
 most = 4294967295
 
+abbrev pub wordNew : List ℕ
+wordNew = 110 ∷ 101 ∷ 119 ∷ []
+
+abbrev pub wordOffer : List ℕ
+wordOffer = 111 ∷ 102 ∷ 102 ∷ 101 ∷ 114 ∷ []
+
+abbrev pub wordFlush : List ℕ
+wordFlush = 102 ∷ 108 ∷ 117 ∷ 115 ∷ 104 ∷ []
+
+abbrev pub wordStep : List ℕ
+wordStep = 115 ∷ 116 ∷ 101 ∷ 112 ∷ []
+
+abbrev pub wordRun : List ℕ
+wordRun = 114 ∷ 117 ∷ 110 ∷ []
+
+abbrev pub wordGet : List ℕ
+wordGet = 103 ∷ 101 ∷ 116 ∷ []
+
+abbrev pub wordPut : List ℕ
+wordPut = 112 ∷ 117 ∷ 116 ∷ []
+
 unfoldable pub formOf : (word : List ℕ) → List (List ℕ) → Line
 formOf word fs =
-    cond (same word (110 ∷ 101 ∷ 119 ∷ []))
+    cond (same word wordNew)
     (cond (fit (most ∷ most ∷ most ∷ most ∷ []) fs) (New (number 0 fs) (number 1 fs) (number 2 fs) (number 3 fs)) Bad)
-    (cond (same word (111 ∷ 102 ∷ 102 ∷ 101 ∷ 114 ∷ []))
+    (cond (same word wordOffer)
     (cond (fit (most ∷ 255 ∷ 65535 ∷ []) fs) (Offer (number 0 fs) (number 1 fs) (number 2 fs)) Bad)
-    (cond (same word (102 ∷ 108 ∷ 117 ∷ 115 ∷ 104 ∷ []))
+    (cond (same word wordFlush)
     (cond (fit (most ∷ []) fs) (Flush (number 0 fs)) Bad)
-    (cond (same word (115 ∷ 116 ∷ 101 ∷ 112 ∷ []))
+    (cond (same word wordStep)
     (cond (fit (most ∷ []) fs) (Step (number 0 fs)) Bad)
-    (cond (same word (114 ∷ 117 ∷ 110 ∷ []))
+    (cond (same word wordRun)
     (cond (fit (most ∷ []) fs) (Run (number 0 fs)) Bad)
-    (cond (same word (103 ∷ 101 ∷ 116 ∷ []))
+    (cond (same word wordGet)
     (cond (fit [] fs) Get Bad)
-    (cond (same word (112 ∷ 117 ∷ 116 ∷ []))
+    (cond (same word wordPut)
     (cond (fit [] fs) Put Bad)
     Bad))))))
 

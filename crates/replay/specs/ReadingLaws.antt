@@ -5,19 +5,19 @@ use mathlib.Core.List.{List, [], _∷_}
 use mathlib.Core.Path.{_≡_, refl, sym, ap, subst, _∙_}
 use native.Mathlib.Omega.{arith}
 use lib.Dec.{T, eqb, ltb, leb}
-use borrow.Author.Tests.{eq-eqb, ne-eqb, eqb-true, eqb-false, le-leb, lt-leb, leb-true, leb-false, ltb-true, ltb-false, lt-ltb, le-ltb}
+use borrow.Author.Tests.{eq-eqb, ne-eqb, eqb-true, le-leb, lt-leb, leb-true, ltb-true, ltb-false}
 use Rattle.replay.specs.declared.line.Line.{Line}
 use Rattle.replay.specs.declared.line.Line.the-variants.{New, Offer, Flush, Step, Run, Get, Put, Bad}
 use Rattle.replay.specs.declared.reading.Reading.{Reading}
-use Rattle.replay.specs.Line.{firstField, laterFields, same, isDigit, allDigits, valueFrom, valueOf, isNumber, fit, number, most, formOf, lineOf}
+use Rattle.replay.specs.Line.{firstField, laterFields, same, allDigits, valueFrom, valueOf, isNumber, fit, number, most, formOf, lineOf, wordNew, wordOffer, wordFlush, wordStep, wordRun, wordGet, wordPut}
 use Rattle.replay.specs.Reading.{readingOf, startOf, badReading, packed, beginsOf, firstOf, letterOf, numbersOf, limitOf, digitOf, spaceOf, takeOf, madeOf, lineIn, takeAll}
 
 -- ---- tests
 
-no-true : false ≡ true → ⊥
+pub no-true : false ≡ true → ⊥
 no-true e = subst T (sym e) tt
 
-both-true : (a b : Bool) → cond a b false ≡ true → (a ≡ true) × (b ≡ true)
+pub both-true : (a b : Bool) → cond a b false ≡ true → (a ≡ true) × (b ≡ true)
 both-true true b e = (refl, e)
 both-true false b e = absurd (no-true e)
 
@@ -25,6 +25,13 @@ both-true false b e = absurd (no-true e)
 when : (t : Bool) (x y z : Line) → (t ≡ true → x ≡ y) → cond t x z ≡ cond t y z
 when true x y z h = h refl
 when false x y z h = refl
+
+-- ---- the line of a word
+
+-- no word
+pub made-none : (k a b c v : ℕ) → (k ≡ 1 → ⊥) → (k ≡ 2 → ⊥) → (k ≡ 3 → ⊥) → (k ≡ 4 → ⊥) → (k ≡ 5 → ⊥) → (k ≡ 6 → ⊥) → (k ≡ 7 → ⊥) → madeOf k a b c v ≡ Bad
+unfolding madeOf
+made-none k a b c v n1 n2 n3 n4 n5 n6 n7 = rw (ne-eqb k 1 n1, ne-eqb k 2 n2, ne-eqb k 3 n3, ne-eqb k 4 n4, ne-eqb k 5 n5, ne-eqb k 6 n6, ne-eqb k 7 n7)
 
 -- ---- a byte of a field, and a space
 
@@ -257,9 +264,9 @@ tail-differs b l bs ls t e = sym (rw (eq-eqb l b (sym (eqb-true b l t)))) ∙ e
 
 -- a word that is none of the seven is not read whole
 no-word : (w : List ℕ) →
-    same w (110 ∷ 101 ∷ 119 ∷ []) ≡ false → same w (111 ∷ 102 ∷ 102 ∷ 101 ∷ 114 ∷ []) ≡ false → same w (102 ∷ 108 ∷ 117 ∷ 115 ∷ 104 ∷ []) ≡ false →
-    same w (115 ∷ 116 ∷ 101 ∷ 112 ∷ []) ≡ false → same w (114 ∷ 117 ∷ 110 ∷ []) ≡ false → same w (103 ∷ 101 ∷ 116 ∷ []) ≡ false →
-    same w (112 ∷ 117 ∷ 116 ∷ []) ≡ false → eat startOf w .filled ≡ false
+    same w wordNew ≡ false → same w wordOffer ≡ false → same w wordFlush ≡ false →
+    same w wordStep ≡ false → same w wordRun ≡ false → same w wordGet ≡ false →
+    same w wordPut ≡ false → eat startOf w .filled ≡ false
 unfolding eat letterOf firstOf left packed
 no-word [] n1 n2 n3 n4 n5 n6 n7 = refl
 no-word (b ∷ bs) n1 n2 n3 n4 n5 n6 n7 =
@@ -271,7 +278,15 @@ no-word (b ∷ bs) n1 n2 n3 n4 n5 n6 n7 =
 
     go : (t1 : Bool) → eqb b 110 ≡ t1 → (t2 : Bool) → eqb b 111 ≡ t2 → (t3 : Bool) → eqb b 102 ≡ t3 → (t4 : Bool) → eqb b 115 ≡ t4 →
         (t5 : Bool) → eqb b 114 ≡ t5 → (t6 : Bool) → eqb b 103 ≡ t6 → (t7 : Bool) → eqb b 112 ≡ t7 →
-        eat (cond t1 (beginsOf 1 (packed (101 ∷ 119 ∷ []))) (cond t2 (beginsOf 2 (packed (102 ∷ 102 ∷ 101 ∷ 114 ∷ []))) (cond t3 (beginsOf 3 (packed (108 ∷ 117 ∷ 115 ∷ 104 ∷ []))) (cond t4 (beginsOf 4 (packed (116 ∷ 101 ∷ 112 ∷ []))) (cond t5 (beginsOf 5 (packed (117 ∷ 110 ∷ []))) (cond t6 (beginsOf 6 (packed (101 ∷ 116 ∷ []))) (cond t7 (beginsOf 7 (packed (117 ∷ 116 ∷ []))) badReading))))))) bs .filled ≡ false
+        eat
+        (cond t1 (beginsOf 1 (packed (101 ∷ 119 ∷ [])))
+        (cond t2 (beginsOf 2 (packed (102 ∷ 102 ∷ 101 ∷ 114 ∷ [])))
+        (cond t3 (beginsOf 3 (packed (108 ∷ 117 ∷ 115 ∷ 104 ∷ [])))
+        (cond t4 (beginsOf 4 (packed (116 ∷ 101 ∷ 112 ∷ [])))
+        (cond t5 (beginsOf 5 (packed (117 ∷ 110 ∷ [])))
+        (cond t6 (beginsOf 6 (packed (101 ∷ 116 ∷ [])))
+        (cond t7 (beginsOf 7 (packed (117 ∷ 116 ∷ [])))
+        badReading))))))) bs .filled ≡ false
     go true e1 t2 e2 t3 e3 t4 e4 t5 e5 t6 e6 t7 e7 = found 1 110 refl refl (101 ∷ 119 ∷ []) (omega arith) e1 n1
     go false e1 true e2 t3 e3 t4 e4 t5 e5 t6 e6 t7 e7 = found 2 111 refl refl (102 ∷ 102 ∷ 101 ∷ 114 ∷ []) (omega arith) e2 n2
     go false e1 false e2 true e3 t4 e4 t5 e5 t6 e6 t7 e7 = found 3 102 refl refl (108 ∷ 117 ∷ 115 ∷ 104 ∷ []) (omega arith) e3 n3
@@ -282,10 +297,6 @@ no-word (b ∷ bs) n1 n2 n3 n4 n5 n6 n7 =
     go false e1 false e2 false e3 false e4 false e5 false e6 false e7 = ap (λ (x : Reading). x .filled) (eat-bad bs)
 
 -- ---- the line
-
-fit-on : (l : ℕ) (ls : List ℕ) (f : List ℕ) (fs : List (List ℕ)) → fit (l ∷ ls) (f ∷ fs) ≡ true → (isNumber l f ≡ true) × (fit ls fs ≡ true)
-unfolding fit
-fit-on l ls f fs e = both-true (isNumber l f) (fit ls fs) e
 
 fit-none : (fs : List (List ℕ)) → fit [] fs ≡ true → fs ≡ []
 unfolding fit
@@ -351,12 +362,12 @@ word-made k word letters line w fs e r h =
 by-word : (w : List ℕ) (fs : List (List ℕ)) → followed (eat startOf w) fs ≡ formOf w fs
 unfolding formOf eat letterOf firstOf packed numbersOf limitOf madeOf
 by-word w fs =
-    go (same w (110 ∷ 101 ∷ 119 ∷ [])) refl (same w (111 ∷ 102 ∷ 102 ∷ 101 ∷ 114 ∷ [])) refl (same w (102 ∷ 108 ∷ 117 ∷ 115 ∷ 104 ∷ [])) refl
-    (same w (115 ∷ 116 ∷ 101 ∷ 112 ∷ [])) refl (same w (114 ∷ 117 ∷ 110 ∷ [])) refl (same w (103 ∷ 101 ∷ 116 ∷ [])) refl (same w (112 ∷ 117 ∷ 116 ∷ [])) refl
+    go (same w wordNew) refl (same w wordOffer) refl (same w wordFlush) refl
+    (same w wordStep) refl (same w wordRun) refl (same w wordGet) refl (same w wordPut) refl
   where
-    go : (t1 : Bool) → same w (110 ∷ 101 ∷ 119 ∷ []) ≡ t1 → (t2 : Bool) → same w (111 ∷ 102 ∷ 102 ∷ 101 ∷ 114 ∷ []) ≡ t2 →
-        (t3 : Bool) → same w (102 ∷ 108 ∷ 117 ∷ 115 ∷ 104 ∷ []) ≡ t3 → (t4 : Bool) → same w (115 ∷ 116 ∷ 101 ∷ 112 ∷ []) ≡ t4 →
-        (t5 : Bool) → same w (114 ∷ 117 ∷ 110 ∷ []) ≡ t5 → (t6 : Bool) → same w (103 ∷ 101 ∷ 116 ∷ []) ≡ t6 → (t7 : Bool) → same w (112 ∷ 117 ∷ 116 ∷ []) ≡ t7 →
+    go : (t1 : Bool) → same w wordNew ≡ t1 → (t2 : Bool) → same w wordOffer ≡ t2 →
+        (t3 : Bool) → same w wordFlush ≡ t3 → (t4 : Bool) → same w wordStep ≡ t4 →
+        (t5 : Bool) → same w wordRun ≡ t5 → (t6 : Bool) → same w wordGet ≡ t6 → (t7 : Bool) → same w wordPut ≡ t7 →
         followed (eat startOf w) fs
         ≡ cond t1 (cond (fit (most ∷ most ∷ most ∷ most ∷ []) fs) (New (number 0 fs) (number 1 fs) (number 2 fs) (number 3 fs)) Bad)
         (cond t2 (cond (fit (most ∷ 255 ∷ 65535 ∷ []) fs) (Offer (number 0 fs) (number 1 fs) (number 2 fs)) Bad)

@@ -1,6 +1,6 @@
-// The replay program (document 01): reads lines from standard input to its end, makes the call of each of a ring, and prints for each
-// the answer and the counts. What it makes of a part of the input and what is printed for that is proved in program.rt; here it is read
-// and printed.
+// The replay program (document 01): reads lines from standard input to its end, makes the call of each, and prints for each the answer
+// and the counts. What is made of a part of the input and what is to be printed for it is proved in program.rt; here it is read and
+// printed.
 ghost use Prim.Native.Nat.{_*_, _≤_};
 ghost use lib.ListN.{length};
 

@@ -31,7 +31,8 @@ impl Program {
     fn line(self, memory: &mut [u8], desks: &mut [u8], out: &mut [u8]) -> Program
         requires { ⌜ self .used + 66 ≤ length (now out) ⌝ }
         ensures { λ r. ⌜ r .used ≤ self .used + 66 ⌝ }
-        ensures { λ r. ⌜ stateOf r (now (memory .exit)) (now (desks .exit)) ≡ linedOf (stateOf self (now (memory .entry)) (now (desks .entry))) ⌝ }
+        ensures { λ r.
+            ⌜ stateOf r (now (memory .exit)) (now (desks .exit)) ≡ linedOf (stateOf self (now (memory .entry)) (now (desks .entry))) ⌝ }
         ensures { λ r. ⌜ take (r .used) (now (out .exit)) ≡ take (self .used) (now (out .entry)) ++ toldOf (r .play) ⌝ }
     {
         let reading = self.reading;
@@ -49,8 +50,10 @@ impl Program {
     fn feed(self, b: u8, memory: &mut [u8], desks: &mut [u8], out: &mut [u8]) -> Program
         requires { ⌜ self .used + 66 ≤ length (now out) ⌝ }
         ensures { λ r. ⌜ r .used ≤ self .used + 66 ⌝ }
-        ensures { λ r. ⌜ stateOf r (now (memory .exit)) (now (desks .exit)) ≡ fedOf (stateOf self (now (memory .entry)) (now (desks .entry))) b ⌝ }
-        ensures { λ r. ⌜ take (r .used) (now (out .exit)) ≡ take (self .used) (now (out .entry)) ++ saidOf (stateOf self (now (memory .entry)) (now (desks .entry))) b ⌝ }
+        ensures { λ r.
+            ⌜ stateOf r (now (memory .exit)) (now (desks .exit)) ≡ fedOf (stateOf self (now (memory .entry)) (now (desks .entry))) b ⌝ }
+        ensures { λ r.
+            ⌜ take (r .used) (now (out .exit)) ≡ take (self .used) (now (out .entry)) ++ saidOf (stateOf self (now (memory .entry)) (now (desks .entry))) b ⌝ }
     {
         let reading = self.reading;
         let play = self.play;
@@ -77,8 +80,10 @@ impl Program {
     ) -> Program
         requires { ⌜ 66 * length (now text) ≤ length (now out) ⌝ }
         ensures { λ r. ⌜ r .used ≤ length (now (out .exit)) ⌝ }
-        ensures { λ r. ⌜ stateOf r (now (memory .exit)) (now (desks .exit)) ≡ fedAll (stateOf self (now (memory .entry)) (now (desks .entry))) (now (text .entry)) ⌝ }
-        ensures { λ r. ⌜ take (r .used) (now (out .exit)) ≡ saidAll (stateOf self (now (memory .entry)) (now (desks .entry))) (now (text .entry)) ⌝ }
+        ensures { λ r.
+            ⌜ stateOf r (now (memory .exit)) (now (desks .exit)) ≡ fedAll (stateOf self (now (memory .entry)) (now (desks .entry))) (now (text .entry)) ⌝ }
+        ensures { λ r.
+            ⌜ take (r .used) (now (out .exit)) ≡ saidAll (stateOf self (now (memory .entry)) (now (desks .entry))) (now (text .entry)) ⌝ }
     {
         let mut now = self;
         now.used = 0;

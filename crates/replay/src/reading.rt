@@ -1,11 +1,13 @@
 // Reading a line byte by byte, so that no line has to be held: a number may have any number of leading zeros.
 ghost use mathlib.Core.Path.{_≡_};
-ghost use Rattle.replay.specs.Reading.{beginsOf, startOf, badReading, firstOf, letterOf, numbersOf, limitOf, spaceOf, digitOf, takeOf, lineIn};
+ghost use Rattle.replay.specs.Reading.{beginsOf, startOf, badReading, firstOf, letterOf, numbersOf, limitOf, spaceOf, digitOf};
+ghost use Rattle.replay.specs.Reading.{takeOf, lineIn};
 use super::line::Line;
 
-// What the bytes of a line so far come to. word: 0 before the first letter, then the word that it begins, 1 to 7 in document 01's order,
-// or 8 if the line is bad. rest: the letters of the word that are to come, as one number to base 256, the next one lowest. count: how many numbers were begun. filled: whether the word
-// or number being read is whole. a, b, c: the numbers before the one that is being read, value: that one.
+// What the bytes of a line so far come to. word: 0 before the first letter, then the word that it begins, 1 to 7 in document 01's
+// order, or 8 if the line is bad. rest: the letters of the word that are to come, as one number to base 256, the next one lowest.
+// count: how many numbers were begun. filled: whether the word or number being read is whole. value: the number being read; a, b, c:
+// those before it.
 pub struct Reading {
     pub word: u32,
     pub rest: u32,

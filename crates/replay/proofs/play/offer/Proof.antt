@@ -1,13 +1,12 @@
 -- `replay::play::offer` meets its contract.
-use Prim.Native.Nat.{ℕ, _<_, _≤_, _*_}
+use Prim.Native.Nat.{ℕ, _≤_, _*_}
 use mathlib.Core.List.{List, _++_}
-use mathlib.Core.Path.{_≡_, sym, ap, ap₂, _∙_}
-use native.Mathlib.Omega.{arith}
-use lib.ListN.{length, take, drop, replicate, length-replicate}
+use mathlib.Core.Path.{sym, ap, ap₂, _∙_}
+use lib.ListN.{length, take, length-replicate}
 use lib.Seq.{length-take-le}
 use denote.Ref.{now}
 use Rattle.ring.specs.Calls.{offerOf, offerBytes}
-use Rattle.replay.specs.Play.{answerOf, desksOf, desksLent}
+use Rattle.replay.specs.Play.{answerOf, desksOf}
 use Rattle.replay.specs.PlayLaws.{front, behind, take-replicate}
 use borrow.Author.Needs.{needs}
 use Rattle.replay.proofs.play.offer.Statement.{statement}

@@ -1,8 +1,7 @@
 -- `replay::play::run` meets its contract.
 use mathlib.Core.List.{List, _++_}
 use Prim.Native.Nat.{ℕ, _*_}
-use mathlib.Core.Path.{sym, ap, ap₂, _∙_}
-use lib.ListN.{length, take, drop}
+use mathlib.Core.Path.{sym, ap₂, _∙_}
 use lib.Seq.{length-take-le}
 use denote.Ref.{now}
 use Rattle.ring.specs.Run.{runOf, runBytes}

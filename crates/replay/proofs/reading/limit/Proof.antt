@@ -1,5 +1,5 @@
 -- `replay::reading::limit` meets its contract.
-use borrow.Author.Tests.{eq-eqb, ne-eqb}
+use borrow.Author.Tests.{ne-eqb}
 use Rattle.replay.specs.Reading.{limitOf}
 use Rattle.replay.proofs.reading.limit.Statement.{statement}
 use Rattle.replay.proofs.reading.limit.Tie as tie

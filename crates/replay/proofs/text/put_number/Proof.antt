@@ -1,7 +1,6 @@
 -- `replay::text::put_number` meets its contract.
 use Prim.Native.Nat.{_≤_}
 use native.Mathlib.Omega.{arith}
-use lib.ListN.{take}
 use denote.Ref.{now}
 use Rattle.replay.specs.TextLaws.{ten-digits, number-behind}
 use borrow.Author.Needs.{needs}

@@ -5,7 +5,6 @@ use mathlib.Core.Path.{_≡_, refl, sym, ap, _∙_}
 use native.Mathlib.Omega.{arith}
 use lib.ListN.{length, take, drop, getD}
 use borrow.Author.Needs.{needs}
-use denote.Ref.{now}
 use Rattle.replay.specs.Text.{decimalOf, joined}
 use Rattle.replay.specs.TextLaws.{joined-step, joined-none}
 use Rattle.replay.proofs.text.put_numbers.Statement.{statement}

@@ -1,12 +1,10 @@
 -- `replay::program::Program::feed` meets its contract.
 use Prim.Native.Nat.{ℕ}
 use mathlib.Core.List.{List, _++_, append-nil}
-use mathlib.Core.Path.{_≡_, sym, ap, _∙_}
+use mathlib.Core.Path.{sym, ap, _∙_}
 use native.Mathlib.Omega.{arith}
 use lib.ListN.{take}
 use denote.Ref.{now}
-use Rattle.replay.specs.declared.play.Play.{Play}
-use Rattle.replay.specs.declared.reading.Reading.{Reading}
 use Rattle.replay.specs.Program.{State, stateOf}
 use Rattle.replay.specs.Text.{toldOf}
 use Rattle.replay.specs.ProgramLaws.{fed-over, said-over, fed-line, said-line, fed-byte, said-byte}

@@ -1,5 +1,5 @@
 -- `replay::program::Program::finish` meets its contract.
-use mathlib.Core.Path.{refl, sym, ap, _∙_}
+use mathlib.Core.Path.{sym, ap, _∙_}
 use native.Mathlib.Omega.{arith}
 use denote.Ref.{now}
 use Rattle.replay.specs.Program.{State, stateOf}

@@ -2,7 +2,7 @@
 use Prim.Native.Nat.{_+_, _-_, _*_}
 use mathlib.Core.Path.{sym}
 use borrow.Author.Tests.{lt-ltb, le-ltb}
-use Rattle.replay.specs.Reading.{limitOf, digitOf}
+use Rattle.replay.specs.Reading.{digitOf}
 use borrow.Author.Needs.{needs}
 use Rattle.replay.proofs.reading.Reading.digit.Statement.{statement}
 use Rattle.replay.proofs.reading.Reading.digit.Tie as tie

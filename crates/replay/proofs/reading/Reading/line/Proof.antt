@@ -1,10 +1,21 @@
 -- `replay::reading::Reading::line` meets its contract.
-use mathlib.Core.Path.{sym}
+use Prim.Native.Nat.{ℕ}
+use mathlib.Core.Path.{_≡_, refl, sym, _∙_}
+use borrow.Author.Needs.{needs}
 use borrow.Author.Tests.{eq-eqb, ne-eqb, not-true, not-false}
 use Rattle.replay.specs.Reading.{madeOf, lineIn}
-use borrow.Author.Needs.{needs}
+use Rattle.replay.specs.ReadingLaws.{made-none}
 use Rattle.replay.proofs.reading.Reading.line.Statement.{statement}
 use Rattle.replay.proofs.reading.Reading.line.Tie as tie
+
+-- a whole field, and as many numbers as the word has
+made : (c : tie.Else2) (k : ℕ) →
+    let r = c .before .before .before .before .before .args .self in r .word ≡ k → madeOf k (r .a) (r .b) (r .c) (r .value) ≡ lineIn r
+unfolding lineIn
+made c k e =
+    let r = c .before .before .before .before .before .args .self in
+    let n = c .before .before .numbers in
+    rw (not-false (r .filled) (c .before .before .before .if1 .left), sym (n .ensures), eq-eqb (r .count) (n .result) (c .if2 .left), e)
 
 returns : tie.Need-returns
 unfolding lineIn
@@ -24,36 +35,39 @@ cast-t9 : tie.Need-cast-t9
 cast-t9 c = search needs
 
 returns-3 : tie.Need-returns-3
-unfolding lineIn madeOf
-returns-3 c = let a = c .before .before .before .before .before .before .args in rw (not-false (a .self .filled) (c .before .before .before .before .if1 .left), sym (c .before .before .before .numbers .ensures), eq-eqb (a .self .count) (c .before .before .before .numbers .result) (c .before .if2 .left), c .match .keys1)
+unfolding madeOf
+returns-3 c = made (c .before) 1 (c .match .keys1)
 
 returns-4 : tie.Need-returns-4
-unfolding lineIn madeOf
-returns-4 c = let a = c .before .before .before .before .before .before .before .before .args in rw (not-false (a .self .filled) (c .before .before .before .before .before .before .if1 .left), sym (c .before .before .before .before .before .numbers .ensures), eq-eqb (a .self .count) (c .before .before .before .before .before .numbers .result) (c .before .before .before .if2 .left), c .before .before .match .keys2)
+unfolding madeOf
+returns-4 c = made (c .before .before .before) 2 (c .before .before .match .keys2)
 
 returns-5 : tie.Need-returns-5
-unfolding lineIn madeOf
-returns-5 c = let a = c .before .before .before .before .before .before .args in rw (not-false (a .self .filled) (c .before .before .before .before .if1 .left), sym (c .before .before .before .numbers .ensures), eq-eqb (a .self .count) (c .before .before .before .numbers .result) (c .before .if2 .left), c .match .keys3)
+unfolding madeOf
+returns-5 c = made (c .before) 3 (c .match .keys3)
 
 returns-6 : tie.Need-returns-6
-unfolding lineIn madeOf
-returns-6 c = let a = c .before .before .before .before .before .before .args in rw (not-false (a .self .filled) (c .before .before .before .before .if1 .left), sym (c .before .before .before .numbers .ensures), eq-eqb (a .self .count) (c .before .before .before .numbers .result) (c .before .if2 .left), c .match .keys4)
+unfolding madeOf
+returns-6 c = made (c .before) 4 (c .match .keys4)
 
 returns-7 : tie.Need-returns-7
-unfolding lineIn madeOf
-returns-7 c = let a = c .before .before .before .before .before .before .args in rw (not-false (a .self .filled) (c .before .before .before .before .if1 .left), sym (c .before .before .before .numbers .ensures), eq-eqb (a .self .count) (c .before .before .before .numbers .result) (c .before .if2 .left), c .match .keys5)
+unfolding madeOf
+returns-7 c = made (c .before) 5 (c .match .keys5)
 
 returns-8 : tie.Need-returns-8
-unfolding lineIn madeOf
-returns-8 c = let a = c .before .before .before .before .before .before .args in rw (not-false (a .self .filled) (c .before .before .before .before .if1 .left), sym (c .before .before .before .numbers .ensures), eq-eqb (a .self .count) (c .before .before .before .numbers .result) (c .before .if2 .left), c .match .keys6)
+unfolding madeOf
+returns-8 c = made (c .before) 6 (c .match .keys6)
 
 returns-9 : tie.Need-returns-9
-unfolding lineIn madeOf
-returns-9 c = let a = c .before .before .before .before .before .before .args in rw (not-false (a .self .filled) (c .before .before .before .before .if1 .left), sym (c .before .before .before .numbers .ensures), eq-eqb (a .self .count) (c .before .before .before .numbers .result) (c .before .if2 .left), c .match .keys7)
+unfolding madeOf
+returns-9 c = made (c .before) 7 (c .match .keys7)
 
 returns-10 : tie.Need-returns-10
-unfolding lineIn madeOf
-returns-10 c = let n = c .match .rest in let a = c .before .before .before .before .before .before .args in rw (not-false (a .self .filled) (c .before .before .before .before .if1 .left), sym (c .before .before .before .numbers .ensures), eq-eqb (a .self .count) (c .before .before .before .numbers .result) (c .before .if2 .left), ne-eqb (a .self .word) 1 (n .0 .0 .0 .0 .0 .0 .1), ne-eqb (a .self .word) 2 (n .0 .0 .0 .0 .0 .1), ne-eqb (a .self .word) 3 (n .0 .0 .0 .0 .1), ne-eqb (a .self .word) 4 (n .0 .0 .0 .1), ne-eqb (a .self .word) 5 (n .0 .0 .1), ne-eqb (a .self .word) 6 (n .0 .1), ne-eqb (a .self .word) 7 (n .1))
+returns-10 c =
+    let r = c .before .before .before .before .before .before .args .self in
+    let n = c .match .rest in
+    sym (made-none (r .word) (r .a) (r .b) (r .c) (r .value) (n .0 .0 .0 .0 .0 .0 .1) (n .0 .0 .0 .0 .0 .1) (n .0 .0 .0 .0 .1) (n .0 .0 .0 .1) (n .0 .0 .1) (n .0 .1) (n .1))
+    ∙ made (c .before) (r .word) refl
 
 pub line-spec : {M : Type 1} → statement M
 line-spec =

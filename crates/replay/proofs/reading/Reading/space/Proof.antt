@@ -1,7 +1,7 @@
 -- `replay::reading::Reading::space` meets its contract.
 use mathlib.Core.Path.{sym}
 use borrow.Author.Tests.{le-leb, lt-leb, not-true, not-false}
-use Rattle.replay.specs.Reading.{numbersOf, spaceOf}
+use Rattle.replay.specs.Reading.{spaceOf}
 use borrow.Author.Needs.{needs}
 use Rattle.replay.proofs.reading.Reading.space.Statement.{statement}
 use Rattle.replay.proofs.reading.Reading.space.Tie as tie
