@@ -47,6 +47,7 @@ fn offer(ring: Ring, p: u32, kind: u8, n: u16, desks: &mut [u8]) -> Answer
     ring.offer(p, kind, &payload[..l], &mut desks[..d])
 }
 
+// One step of producer p.
 fn step(ring: Ring, p: u32, memory: &mut [u8], desks: &[u8]) -> Answer
     ensures { λ r. ⌜ r ≡ answerOf ring (Line.Step p) (now (memory .entry)) (now (desks .entry)) ⌝ }
     ensures { λ _. ⌜ now (memory .exit) ≡ memoryOf ring (Line.Step p) (now (memory .entry)) (now (desks .entry)) ⌝ }
@@ -56,6 +57,7 @@ fn step(ring: Ring, p: u32, memory: &mut [u8], desks: &[u8]) -> Answer
     ring.step(p, &mut memory[..b], &desks[..d])
 }
 
+// Steps of producer p until it is idle.
 fn run(ring: Ring, p: u32, memory: &mut [u8], desks: &[u8]) -> Answer
     ensures { λ r. ⌜ r ≡ answerOf ring (Line.Run p) (now (memory .entry)) (now (desks .entry)) ⌝ }
     ensures { λ _. ⌜ now (memory .exit) ≡ memoryOf ring (Line.Run p) (now (memory .entry)) (now (desks .entry)) ⌝ }

@@ -85,14 +85,14 @@ impl Program {
         ensures { λ r.
             ⌜ take (r .used) (now (out .exit)) ≡ saidAll (stateOf self (now (memory .entry)) (now (desks .entry))) (now (text .entry)) ⌝ }
     {
-        let mut now = self;
-        now.used = 0;
+        let mut next = self;
+        next.used = 0;
         let mut i = 0;
         while i < text.len() {
-            now = now.feed(text[i], memory, desks, out);
+            next = next.feed(text[i], memory, desks, out);
             i += 1;
         }
-        now
+        next
     }
 
     // The end of the input: a last line without a line feed counts.
@@ -109,9 +109,9 @@ impl Program {
         if reading.word == 0 {
             return 0;
         }
-        let mut now = self;
-        now.used = 0;
-        let last = now.line(memory, desks, out);
+        let mut next = self;
+        next.used = 0;
+        let last = next.line(memory, desks, out);
         last.used
     }
 }

@@ -59,7 +59,11 @@ returns-7 c = rw (c .before .match .keys7) (c .begins7 .ensures)
 
 returns-8 : tie.Need-returns-8
 unfolding firstOf
-returns-8 c = let n = c .before .match .rest in rw (ne-eqb (c .before .before .args .b) 110 (n .0 .0 .0 .0 .0 .0 .1), ne-eqb (c .before .before .args .b) 111 (n .0 .0 .0 .0 .0 .1), ne-eqb (c .before .before .args .b) 102 (n .0 .0 .0 .0 .1), ne-eqb (c .before .before .args .b) 115 (n .0 .0 .0 .1), ne-eqb (c .before .before .args .b) 114 (n .0 .0 .1), ne-eqb (c .before .before .args .b) 103 (n .0 .1), ne-eqb (c .before .before .args .b) 112 (n .1)) (c .bad .ensures)
+returns-8 c =
+    let b = c .before .before .args .b in
+    let n = c .before .match .rest in
+    rw (ne-eqb b 110 (n .0 .0 .0 .0 .0 .0 .1), ne-eqb b 111 (n .0 .0 .0 .0 .0 .1), ne-eqb b 102 (n .0 .0 .0 .0 .1), ne-eqb b 115 (n .0 .0 .0 .1), ne-eqb b 114 (n .0 .0 .1), ne-eqb b 103 (n .0 .1), ne-eqb b 112 (n .1))
+    (c .bad .ensures)
 
 pub first-spec : {M : Type 1} → statement M
 first-spec =

@@ -26,7 +26,10 @@ returns-5 c = rw (c .match .keys5)
 
 returns-6 : tie.Need-returns-6
 unfolding numbersOf
-returns-6 c = let n = c .match .rest in rw (ne-eqb (c .before .args .word) 1 (n .0 .0 .0 .0 .1), ne-eqb (c .before .args .word) 2 (n .0 .0 .0 .1), ne-eqb (c .before .args .word) 3 (n .0 .0 .1), ne-eqb (c .before .args .word) 4 (n .0 .1), ne-eqb (c .before .args .word) 5 (n .1))
+returns-6 c =
+    let w = c .before .args .word in
+    let n = c .match .rest in
+    rw (ne-eqb w 1 (n .0 .0 .0 .0 .1), ne-eqb w 2 (n .0 .0 .0 .1), ne-eqb w 3 (n .0 .0 .1), ne-eqb w 4 (n .0 .1), ne-eqb w 5 (n .1))
 
 pub numbers-spec : {M : Type 1} → statement M
 numbers-spec = tie.close (tie.spec returns returns-2 returns-3 returns-4 returns-5 returns-6)

@@ -15,7 +15,9 @@ ended-requires c κs = search needs
 
 returns : tie.Need-returns
 unfolding doneOf doneMemory doneDesks
-returns c = rw (sym (c .before .before .is-allowed .ensures), not-true (c .before .before .is-allowed .result) (c .before .if1 .taken)) (c .ended .ensures, (refl, refl))
+returns c =
+    let w = c .before .before .is-allowed in
+    rw (sym (w .ensures), not-true (w .result) (c .before .if1 .taken)) (c .ended .ensures, (refl, refl))
 
 call-requires : tie.Need-call-requires
 call-requires c κs = search needs
@@ -33,8 +35,9 @@ returns-2 : tie.Need-returns-2
 unfolding doneOf doneMemory doneDesks
 returns-2 c =
     let a = c .before .before .before .before .before .before .before .before .before .before .before .before .before .args in
+    let w = c .before .before .before .before .before .before .before .before .before .before .is-allowed in
     let e = c .before .before .before .before .before .call .ensures in
-    rw (sym (c .before .before .before .before .before .before .before .before .before .before .is-allowed .ensures), not-false (c .before .before .before .before .before .before .before .before .before .before .is-allowed .result) (c .before .before .before .before .before .before .before .before .before .if1 .left))
+    rw (sym (w .ensures), not-false (w .result) (c .before .before .before .before .before .before .before .before .before .if1 .left))
     (c .answered .ensures ∙ ap (λ (x : Answer). answeredOf (a .self) x) (e .0), (e .1 .0, e .1 .1))
 
 pub does-spec : {M : Type 1} → statement M

@@ -44,14 +44,22 @@ bad-requires-3 c κs = search needs
 
 returns-3 : tie.Need-returns-3
 unfolding digitOf
-returns-3 c = let a = c .before .before .before .before .before .before .args in rw (le-ltb (a .b) 48 (c .before .before .before .before .before .if1 .left), le-ltb 57 (a .b) (c .before .before .before .before .if2 .left), sym (c .before .before .limit .ensures), lt-ltb (c .before .before .limit .result) (a .self .value * 10 + (a .b - 48)) (c .before .if3 .taken)) (c .bad3 .ensures)
+returns-3 c =
+    let a = c .before .before .before .before .before .before .args in
+    let l = c .before .before .limit in
+    let v = a .self .value * 10 + (a .b - 48) in
+    rw (le-ltb (a .b) 48 (c .before .before .before .before .before .if1 .left), le-ltb 57 (a .b) (c .before .before .before .before .if2 .left), sym (l .ensures), lt-ltb (l .result) v (c .before .if3 .taken)) (c .bad3 .ensures)
 
 cast-t9 : tie.Need-cast-t9
 cast-t9 c = search needs
 
 returns-4 : tie.Need-returns-4
 unfolding digitOf
-returns-4 c = let a = c .before .before .before .before .before .args in rw (le-ltb (a .b) 48 (c .before .before .before .before .if1 .left), le-ltb 57 (a .b) (c .before .before .before .if2 .left), sym (c .before .limit .ensures), le-ltb (c .before .limit .result) (a .self .value * 10 + (a .b - 48)) (c .if3 .left))
+returns-4 c =
+    let a = c .before .before .before .before .before .args in
+    let l = c .before .limit in
+    let v = a .self .value * 10 + (a .b - 48) in
+    rw (le-ltb (a .b) 48 (c .before .before .before .before .if1 .left), le-ltb 57 (a .b) (c .before .before .before .if2 .left), sym (l .ensures), le-ltb (l .result) v (c .if3 .left))
 
 pub digit-spec : {M : Type 1} → statement M
 digit-spec =

@@ -25,11 +25,17 @@ bad-requires-2 c κs = search needs
 
 returns-3 : tie.Need-returns-3
 unfolding letterOf
-returns-3 c = let a = c .before .before .before .before .before .before .args in rw (ne-eqb (a .self .word) 0 (c .before .before .before .before .if1 .left), c .before .before .before .if2 .left, ne-eqb (a .self .rest % 256) (a .b) (c .before .if3 .taken)) (c .bad2 .ensures)
+returns-3 c =
+    let r = c .before .before .before .before .before .before .args .self in
+    let b = c .before .before .before .before .before .before .args .b in
+    rw (ne-eqb (r .word) 0 (c .before .before .before .before .if1 .left), c .before .before .before .if2 .left, ne-eqb (r .rest % 256) b (c .before .if3 .taken)) (c .bad2 .ensures)
 
 returns-4 : tie.Need-returns-4
 unfolding letterOf
-returns-4 c = let a = c .before .before .before .before .before .before .args in rw (ne-eqb (a .self .word) 0 (c .before .before .before .before .if1 .left), c .before .before .before .if2 .left, eq-eqb (a .self .rest % 256) (a .b) (c .before .if3 .left))
+returns-4 c =
+    let r = c .before .before .before .before .before .before .args .self in
+    let b = c .before .before .before .before .before .before .args .b in
+    rw (ne-eqb (r .word) 0 (c .before .before .before .before .if1 .left), c .before .before .before .if2 .left, eq-eqb (r .rest % 256) b (c .before .if3 .left))
 
 pub letter-spec : {M : Type 1} → statement M
 letter-spec =

@@ -26,7 +26,10 @@ numbers-requires c κs = search needs
 
 returns-2 : tie.Need-returns-2
 unfolding lineIn
-returns-2 c = let a = c .before .before .before .before .before .args in rw (not-false (a .self .filled) (c .before .before .before .if1 .left), sym (c .before .before .numbers .ensures), ne-eqb (a .self .count) (c .before .before .numbers .result) (c .if2 .taken))
+returns-2 c =
+    let r = c .before .before .before .before .before .args .self in
+    let n = c .before .before .numbers in
+    rw (not-false (r .filled) (c .before .before .before .if1 .left), sym (n .ensures), ne-eqb (r .count) (n .result) (c .if2 .taken))
 
 cast-t7 : tie.Need-cast-t7
 cast-t7 c = search needs

@@ -21,14 +21,20 @@ bad-requires-2 c κs = search needs
 
 returns-2 : tie.Need-returns-2
 unfolding spaceOf
-returns-2 c = let a = c .before .before .before .before .before .before .args in rw (not-false (a .self .filled) (c .before .before .before .before .if1 .left), sym (c .before .before .before .numbers .ensures), le-leb (c .before .before .before .numbers .result) (a .self .count) (c .before .if2 .taken)) (c .bad2 .ensures)
+returns-2 c =
+    let r = c .before .before .before .before .before .before .args .self in
+    let n = c .before .before .before .numbers in
+    rw (not-false (r .filled) (c .before .before .before .before .if1 .left), sym (n .ensures), le-leb (n .result) (r .count) (c .before .if2 .taken)) (c .bad2 .ensures)
 
 add-t3 : tie.Need-add-t3
 add-t3 c = search needs
 
 returns-3 : tie.Need-returns-3
 unfolding spaceOf
-returns-3 c = let a = c .before .before .before .before .before .before .args in rw (not-false (a .self .filled) (c .before .before .before .before .if1 .left), sym (c .before .before .before .numbers .ensures), lt-leb (c .before .before .before .numbers .result) (a .self .count) (c .before .if2 .left))
+returns-3 c =
+    let r = c .before .before .before .before .before .before .args .self in
+    let n = c .before .before .before .numbers in
+    rw (not-false (r .filled) (c .before .before .before .before .if1 .left), sym (n .ensures), lt-leb (n .result) (r .count) (c .before .if2 .left))
 
 pub space-spec : {M : Type 1} → statement M
 space-spec =

@@ -24,14 +24,22 @@ letter-requires c κs = search needs
 
 returns-3 : tie.Need-returns-3
 unfolding takeOf
-returns-3 c = let a = c .before .before .before .before .before .before .args in rw (ne-eqb (a .self .word) 8 (c .before .before .before .before .if1 .left), ne-eqb (a .b) 32 (c .before .before .before .if2 .left), eq-eqb (a .self .count) 0 (c .before .if3 .taken)) (c .letter .ensures)
+returns-3 c =
+    let r = c .before .before .before .before .before .before .args .self in
+    let b = c .before .before .before .before .before .before .args .b in
+    rw (ne-eqb (r .word) 8 (c .before .before .before .before .if1 .left), ne-eqb b 32 (c .before .before .before .if2 .left), eq-eqb (r .count) 0 (c .before .if3 .taken))
+    (c .letter .ensures)
 
 digit-requires : tie.Need-digit-requires
 digit-requires c κs = search needs
 
 returns-4 : tie.Need-returns-4
 unfolding takeOf
-returns-4 c = let a = c .before .before .before .before .before .before .args in rw (ne-eqb (a .self .word) 8 (c .before .before .before .before .if1 .left), ne-eqb (a .b) 32 (c .before .before .before .if2 .left), ne-eqb (a .self .count) 0 (c .before .if3 .left)) (c .digit .ensures)
+returns-4 c =
+    let r = c .before .before .before .before .before .before .args .self in
+    let b = c .before .before .before .before .before .before .args .b in
+    rw (ne-eqb (r .word) 8 (c .before .before .before .before .if1 .left), ne-eqb b 32 (c .before .before .before .if2 .left), ne-eqb (r .count) 0 (c .before .if3 .left))
+    (c .digit .ensures)
 
 pub take-spec : {M : Type 1} → statement M
 take-spec =
