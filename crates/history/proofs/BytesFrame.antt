@@ -38,7 +38,7 @@ in-window v I i h = go (decLt (piece v i .part) (v .truth .lo + v .N))
         ))
 
 -- what a padding piece is
-pad-last : (S : ℕ) (x : Piece) → x .whose ≡ padding → Fine S x → Last S x
+pub pad-last : (S : ℕ) (x : Piece) → x .whose ≡ padding → Fine S x → Last S x
 unfolding Shape
 pad-last S x e f = (subst (λ w. Shape w S (x .offset) (x .size) (x .bytes)) e (f .shape)) .1
 

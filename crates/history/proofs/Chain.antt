@@ -20,7 +20,7 @@ use Rattle.history.proofs.Geometry.{below}
 -- ---- what a piece is
 
 unfoldable pub Shape : Whose → (S offset size : ℕ) → List ℕ → Type 0
-Shape padding S o n bytes = (header ≤ o) × (o + n ≡ S)
+Shape padding S o n bytes = (header < o) × (o + n ≡ S)
 Shape heading S o n bytes = (o ≡ 0) × (n ≡ header)
 Shape slot S o n bytes = (header ≤ o) × (length bytes ≡ n)
 

@@ -68,10 +68,10 @@ module _ (S : ℕ) (pos-S : 0 < S) where
   slot-fits closing saw z h k = k
 
   -- behind the header, if the write count is never inside one
-  pub slot-behind : (f : Fit) (saw z : ℕ) → FitIs f (saw % S) z S → (0 < saw % S → header ≤ saw % S) → header ≤ offIn f S saw
+  pub slot-behind : (f : Fit) (saw z : ℕ) → FitIs f (saw % S) z S → (0 < saw % S → header < saw % S) → header ≤ offIn f S saw
   unfolding FitIs offIn
   slot-behind entering saw z h k = omega arith
-  slot-behind inside saw z h k = k (h .0)
+  slot-behind inside saw z h k = omega (arith, k (h .0))
   slot-behind closing saw z h k = omega arith
 
 -- ---- the machine's formulas
@@ -103,7 +103,7 @@ module _ {S N P : ℕ} (G : Shaped S N P) (q : Producer) (saw : ℕ) (is : q .w 
   unfolding partOf byteOf
   part-is = rw is (part-wrap G saw)
 
-  start-is : startOf (q .w) S .0 ≡ saw / S * S % word
+  pub start-is : startOf (q .w) S .0 ≡ saw / S * S % word
   unfolding startOf
   start-is = back (saw % S) (saw / S * S) (div-add-mod' saw S) (mod-le (q .w .0) S) off-is
     where
@@ -119,7 +119,7 @@ module _ {S N P : ℕ} (G : Shaped S N P) (q : Producer) (saw : ℕ) (is : q .w 
     pub e : x .e .0 ≡ (partIn f S saw * S + offIn f S saw + q .z) % word
     pub ends : x .ends ≡ eqb ((partIn f S saw * S + offIn f S saw + q .z) % S) 0
 
-  past : (x : Position) (y n : ℕ) → x .0 ≡ y % word → plusOf x n .0 ≡ (y + n) % word
+  pub past : (x : Position) (y n : ℕ) → x .0 ≡ y % word → plusOf x n .0 ≡ (y + n) % word
   unfolding plusOf add32
   past x y n e = rw e (omega arith)
 

@@ -138,13 +138,5 @@ module _ {S N P : ℕ} (G : Shaped S N P) where
   pub part-wrap : (x : ℕ) → x % word % (S * N) / S ≡ x / S % N
   part-wrap x = ap (λ y. y / S) (byte-wrap x) ∙ part-split x
 
-  -- positions of one window stand at different bytes
-  pub byte-apart : (lo x y : ℕ) → lo * S ≤ x → x < lo * S + S * N → lo * S ≤ y → y < lo * S + S * N → x % (S * N) ≡ y % (S * N) → x ≡ y
-  byte-apart lo x y a b c d e = go (decLe x y)
-    where
-      go : Dec (x ≤ y) → x ≡ y
-      go (yes l) = place-inj (S * N) x y l (omega arith) e
-      go (no l) = sym (place-inj (S * N) y x (omega arith) (omega arith) (sym e))
-
   pub byte-below : (x : ℕ) → x % (S * N) < S * N
   byte-below x = mod-lt x (omega (arith, two-parts, s-pos))

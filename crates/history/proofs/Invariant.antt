@@ -207,7 +207,7 @@ pub record Span (S N start W lo : ℕ) : Type 0 where
   pub first : start ≤ lo * S
   pub low : lo * S ≤ W
   pub high : W ≤ lo * S + S * N
-  pub past-head : 0 < W % S → header ≤ W % S
+  pub past-head : 0 < W % S → header < W % S
 
 -- commit counts of the window
 abbrev pub Window : (S N lo : ℕ) → List ℕ → List Piece → Type 0

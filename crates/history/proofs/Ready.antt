@@ -10,10 +10,10 @@ use borrow.Author.Tests.{eqb-true}
 use Rattle.counts.specs.declared.commit.Commit.{Commit}
 use Rattle.counts.specs.declared.position.Position.{Position}
 use Rattle.counts.specs.Commit.{pastOf, readyOf}
-use Rattle.counts.specs.Position.{byteOf, partOf, toCommitOf}
+use Rattle.counts.specs.Position.{byteOf, toCommitOf}
 use Rattle.counts.specs.ShapeLaws.{Shaped}
 use Rattle.counts.specs.Wrap.{word, sub32}
-use Rattle.history.proofs.Geometry.{place-inj, place-wrap, place-past, at-div, at-mod, s-pos, n-pos, small, two-parts, ring-of-word, part-wrap}
+use Rattle.history.proofs.Geometry.{place-inj, place-wrap, place-past, at-div, at-mod, s-pos, n-pos, small, two-parts, ring-of-word}
 
 module _ {S N P : ℕ} (G : Shaped S N P) where
   -- how often the ring goes into 2^32
@@ -117,8 +117,3 @@ module _ {S N P : ℕ} (G : Shaped S N P) where
   ready-is k Q x seq ex eq t hi lo =
       raised-is k Q hi lo
       (ap₂ (λ a b. sub32 a S % b) (sym eq) (sym lap-size) ∙ eqb-true _ _ t ∙ ap (λ y. (y - y % (S * N)) / N) ex)
-
-  -- the sub-buffer of part k
-  pub part-of : (k : ℕ) (x : Position) → x .0 ≡ k * S % word → partOf x S N ≡ k % N
-  unfolding partOf byteOf
-  part-of k x e = rw e (part-wrap G (k * S) ∙ ap (λ y. y % N) (ap (λ y. y / S) (sym (add-zero (k * S))) ∙ at-div S k 0 (s-pos G)))

@@ -35,7 +35,7 @@ open-did S W (x ∷ xs) k h = omega (arith, did-open k x (h 0 (omega arith) .0),
 
 module _ (v : View) (p : ℕ) (lt : p < v .P) (I : Core v) (ps : List Piece) (write W′ : ℕ) (q : Producer) (k : Work) (t : Mark)
     (chained : Chain (v .S) (v .W) ps W′) (fresh : Open (v .S) (v .W) ps) (up : v .W ≤ W′) (high : W′ ≤ v .truth .lo * v .S + v .S * v .N)
-    (past-head : 0 < W′ % v .S → header ≤ W′ % v .S) (write-is : write ≡ W′ % word)
+    (past-head : 0 < W′ % v .S → header < W′ % v .S) (write-is : write ≡ W′ % word)
     (own : PInv (v .S) (v .N) p q k t W′ (v .truth .lo) (v .truth .C) (v .truth .Q) (v .pieces ++ ps)) where
   pub reserve-keeps : Core (stepped p q (withMark p t (v .truth)) (withWork p k (withPieces (v .pieces ++ ps) (withWrite write W′ v))))
   reserve-keeps =
@@ -69,10 +69,10 @@ module _ (v : View) (p : ℕ) (lt : p < v .P) (I : Core v) (ps : List Piece) (wr
 -- ---- the pieces of an event
 
 module _ (S : ℕ) (S-pos : 0 < S) (p event : ℕ) (bytes : List ℕ) where
-  pub pieces-chain : (f : Fit) (W : ℕ) → FitIs f (W % S) (length bytes) S → header + length bytes ≤ S → 0 < length bytes → 0 < header → (0 < W % S → header ≤ W % S) →
+  pub pieces-chain : (f : Fit) (W : ℕ) → FitIs f (W % S) (length bytes) S → header + length bytes ≤ S → 0 < length bytes → 0 < header → (0 < W % S → header < W % S) →
       Chain S W (pieces f p W S event bytes) (W + (skip f S (W % S) + length bytes))
   unfolding Chain Shape pieces skip FitIs
-  pieces-chain inside W h a b c g = (omega (arith, div-add-mod' W S), h .1, b, (g (h .0), refl), omega arith)
+  pieces-chain inside W h a b c g = (omega (arith, div-add-mod' W S), h .1, b, (omega (arith, g (h .0)), refl), omega arith)
   pieces-chain entering W h a b c g = (
     omega (arith, div-add-mod' W S),
     omega arith,

@@ -68,21 +68,21 @@ module _ (r : Ring) (l : Log) (t : Truth) (p k : ℕ) where
 
 -- ---- what refusal 18 has looked at
 
-fits-phase : (q : Producer) (S : ℕ) (x : Row) → fitsOf q S ≡ true → rowOf (q .phase) ≡ x → phaseFits x q S ≡ true
+pub fits-phase : (q : Producer) (S : ℕ) (x : Row) → fitsOf q S ≡ true → rowOf (q .phase) ≡ x → phaseFits x q S ≡ true
 unfolding fitsOf
 fits-phase q S x f e =
     subst (λ y. phaseFits y q S ≡ true) e
     (and-right (leb (q .done) (q .z)) _ (and-right (sizeFits q S) _ f))
 
-fits-done : (q : Producer) (S : ℕ) → fitsOf q S ≡ true → q .done ≤ q .z
+pub fits-done : (q : Producer) (S : ℕ) → fitsOf q S ≡ true → q .done ≤ q .z
 unfolding fitsOf
 fits-done q S f = leb-true (q .done) (q .z) (and-left (leb (q .done) (q .z)) _ (and-right (sizeFits q S) _ f))
 
-not-zero : (z : ℕ) → not (eqb z 0) ≡ true → z ≡ 0 → ⊥
+pub not-zero : (z : ℕ) → not (eqb z 0) ≡ true → z ≡ 0 → ⊥
 not-zero z t e = false≢true (sym (ap not (eq-eqb z 0 e)) ∙ t)
 
 -- a flush in swap has something to close
-flush-past : (q : Producer) (S : ℕ) → q .z ≡ 0 → phaseFits swapping q S ≡ true → 0 < offsetOf (q .w) S
+pub flush-past : (q : Producer) (S : ℕ) → q .z ≡ 0 → phaseFits swapping q S ≡ true → 0 < offsetOf (q .w) S
 unfolding phaseFits
 flush-past q S z t = go (offsetOf (q .w) S) (rw (eq-eqb (q .z) 0 z) at t)
   where
@@ -90,16 +90,24 @@ flush-past q S z t = go (offsetOf (q .w) S) (rw (eq-eqb (q .z) 0 z) at t)
     go o t = let n = not-zero o t in omega (arith, n)
 
 -- what opens is an event
-open-event : (q : Producer) (S : ℕ) → phaseFits opening q S ≡ true → Event q
+pub open-event : (q : Producer) (S : ℕ) → phaseFits opening q S ≡ true → Event q
 unfolding phaseFits
 open-event q S t = not-zero (q .z) (and-left (not (flushing q)) _ t)
 
 -- a write goes no further than the record
-chunk-end : (q : Producer) → q .done ≤ q .z → q .z < word → add32 (q .done) (chunkOf q) ≤ q .z
+pub chunk-end : (q : Producer) → q .done ≤ q .z → q .z < word → add32 (q .done) (chunkOf q) ≤ q .z
 unfolding add32
 chunk-end q h k = go (decLt (q .z - q .done) 8)
   where
     go : Dec (q .z - q .done < 8) → (q .done + chunkOf q) % word ≤ q .z
+    go (yes c) = rw (chunk-rest q 0 c) (omega arith)
+    go (no c) = rw (chunk-eight q 0 (omega arith)) (omega arith)
+
+pub chunk-sum : (q : Producer) → q .done ≤ q .z → q .z < word → add32 (q .done) (chunkOf q) ≡ q .done + chunkOf q
+unfolding add32
+chunk-sum q h k = go (decLt (q .z - q .done) 8)
+  where
+    go : Dec (q .z - q .done < 8) → (q .done + chunkOf q) % word ≡ q .done + chunkOf q
     go (yes c) = rw (chunk-rest q 0 c) (omega arith)
     go (no c) = rw (chunk-eight q 0 (omega arith)) (omega arith)
 
@@ -146,6 +154,14 @@ head-write = record { busy = tt; see-busy = tt; set-busy = tt; see-raising = tt;
 slot-idle : Job slot 0
 unfolding says rowOf calm
 slot-idle = record { busy = tt; see-busy = tt; set-busy = tt; see-raising = tt; set-raising = tt; set-setting = tt; see-setting = λ u. u; see-whole = λ u. u; set-whole = λ u. u; see-whose = refl; set-whose = refl; look-go = tt; look-fin = tt; see-go = tt; see-fin = tt; set-go = tt; set-fin = tt; fin-raising = λ u. u; fin-setting = λ u. u; fin-whole = λ u. u }
+
+-- a flush is idle after close, an event opens
+pub pad-next : (z : ℕ) → (_≡_ {A = ℕ} (cond (eqb z 0) 0 9) 0) ⊎ (_≡_ {A = ℕ} (cond (eqb z 0) 0 9) 9)
+pad-next z = go (eqb z 0)
+  where
+    go : (b : Bool) → (_≡_ {A = ℕ} (cond b 0 9) 0) ⊎ (_≡_ {A = ℕ} (cond b 0 9) 9)
+    go true = inl refl
+    go false = inr refl
 
 -- a distance below B, of two positions that lie less than 2^31 apart
 order : (x y B : ℕ) → B ≤ 65536 → x < y + half → y < x + half → sub32 (x % word) (y % word) < B → x < y + B
@@ -646,14 +662,6 @@ module _ (r : Ring) (l : Log) (t : Truth) (p : ℕ) (lt : p < r .producers) (fit
 
   slot-lt : partOf (placeAt q (r .size) .a) (r .size) (r .parts) < r .parts
   slot-lt = part-lt (placeAt q (r .size) .a) (r .size) (r .parts) (s-pos (I .shape)) (n-pos (I .shape))
-
-  -- a flush is idle after close, an event opens
-  pad-next : (z : ℕ) → (_≡_ {A = ℕ} (cond (eqb z 0) 0 9) 0) ⊎ (_≡_ {A = ℕ} (cond (eqb z 0) 0 9) 9)
-  pad-next z = go (eqb z 0)
-    where
-      go : (b : Bool) → (_≡_ {A = ℕ} (cond b 0 9) 0) ⊎ (_≡_ {A = ℕ} (cond b 0 9) 9)
-      go true = inl refl
-      go false = inr refl
 
   commit-good : (whose : Whose) (stage : Stage) → rowOf (q .phase) ≡ committing whose stage →
       Good (storedOf r p (partBy (committing whose stage) q (r .size) (r .parts)) (commitBy whose stage q (sharedAt r (partBy (committing whose stage) q (r .size) (r .parts))) (r .size)))

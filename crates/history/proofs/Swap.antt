@@ -48,10 +48,10 @@ lands closing = record { judged = λ t. t; raising = λ t. t; setting = λ t. t;
 
 -- ---- the write count, again past a header or at a boundary
 
-boundary : (S k x : ℕ) → 0 < S → header ≤ x → x ≤ S → 0 < (k * S + x) % S → header ≤ (k * S + x) % S
+boundary : (S k x : ℕ) → 0 < S → header < x → x ≤ S → 0 < (k * S + x) % S → header < (k * S + x) % S
 boundary S k x s a b = go (decLt x S)
   where
-    go : Dec (x < S) → 0 < (k * S + x) % S → header ≤ (k * S + x) % S
+    go : Dec (x < S) → 0 < (k * S + x) % S → header < (k * S + x) % S
     go (yes l) h = rw (at-mod S k x l) a
     go (no l) h =
         let e : k * S + x ≡ suc k * S + 0 = omega arith in
@@ -132,11 +132,11 @@ module _ (v : View) (p : ℕ) (lt : p < v .P) (e : rowOf (at v p .phase) ≡ swa
             mul-le-mul-right (v .S) (part-in (v .S) (v .N) (v .truth .lo) (v .W) (at v p .z) f (s-pos (I .shape)) spec (I .span .high) room),
           )
 
-      past-head : 0 < end % v .S → header ≤ end % v .S
+      past-head : 0 < end % v .S → header < end % v .S
       past-head =
           rw here
           (boundary (v .S) (partIn f (v .S) (v .W)) (offIn f (v .S) (v .W) + at v p .z) (s-pos (I .shape))
-          (omega (arith, slot-behind (v .S) (s-pos (I .shape)) f (v .W) (at v p .z) spec (I .span .past-head)))
+          (omega (arith, slot-behind (v .S) (s-pos (I .shape)) f (v .W) (at v p .z) spec (I .span .past-head), some))
           (slot-fits (v .S) (s-pos (I .shape)) f (v .W) (at v p .z) spec (sized .fits)))
         where
           here : end ≡ partIn f (v .S) (v .W) * v .S + (offIn f (v .S) (v .W) + at v p .z)
