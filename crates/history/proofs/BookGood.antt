@@ -23,7 +23,8 @@ use Rattle.history.proofs.BookRows.{step-book}
 use Rattle.history.proofs.Coords.{partIn, offIn}
 use Rattle.history.proofs.Invariant.{saysOf, fitIn, SlotHeld, PInv, Core}
 use Rattle.history.proofs.Jobs.{one-keeps}
-use Rattle.history.proofs.Rows.{Good, step-good}
+use Rattle.history.proofs.Good.{Good}
+use Rattle.history.proofs.Rows.{step-good}
 use Rattle.history.proofs.View.{Mark, Truth, View, viewOf, mark, noMark, withMark}
 
 -- ---- the true bytes of a producer's record are those of its event

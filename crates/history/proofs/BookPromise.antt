@@ -18,7 +18,7 @@ use Rattle.history.specs.History.{Moment}
 use Rattle.history.specs.Promise.{atWork, Fates, Losses, Counts, isWrittenSlot, writtenSlots, Once}
 use Rattle.history.proofs.Book.{owning, Owns, noEvent, Book}
 use Rattle.history.proofs.BookWhole.{WholeAt}
-use Rattle.history.proofs.Rows.{Good}
+use Rattle.history.proofs.Good.{Good}
 use Rattle.history.proofs.BookLists.{each-at, many-none, many-one, many-only}
 
 -- ---- the rows at which an event is open are phases 1 to 16

@@ -41,7 +41,7 @@ use Rattle.history.proofs.Geometry.{s-pos, at-mod}
 use Rattle.history.proofs.Invariant.{says, saysOf, Event, fitIn, PInv, Core, KeepOf}
 use Rattle.history.proofs.Places.{close-writes, open-writes, write-writes, end-writes}
 use Rattle.history.proofs.Reserve.{Open, pieces-open}
-use Rattle.history.proofs.Rows.{fits-phase, fits-done, not-zero, open-event, chunk-end, chunk-sum, pad-next}
+use Rattle.history.proofs.Fitting.{fits-phase, fits-done, not-zero, open-event, chunk-end, chunk-sum, pad-next}
 use Rattle.history.proofs.View.{Truth, View, viewOf, at, work, mark, piece}
 
 -- the record of each producer, by the log

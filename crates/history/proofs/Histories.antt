@@ -1,32 +1,12 @@
--- The promise tried on closed histories, each by computation.
+-- Closed histories on which the promise is tried.
 use Prim.Native.Nat.{ℕ}
-use mathlib.Core.Path.{_≡_, refl}
-use mathlib.Core.List.{List, [], _∷_, _++_, flatten}
+use mathlib.Core.Path.{_≡_}
+use mathlib.Core.List.{List, [], _∷_, _++_}
 use lib.ListN.{length, replicate}
-use Rattle.counts.specs.Commit.{onOf, pastOf, roundOf, raisesOf, readyOf}
-use Rattle.counts.specs.Place.{fitOf, slotOf, placed, placeOf, fullOf}
-use Rattle.counts.specs.Position.{plusOf, sinceOf, startOf, leftOf, nextOf, byteOf, partOf, toCommitOf}
-use Rattle.counts.specs.Shape.{sizeOf, partsOf, producersOf, shapeOf}
-use Rattle.counts.specs.Wrap.{add32, sub32}
-use Rattle.layout.specs.Bytes.{word2, word4}
-use Rattle.layout.specs.Header.{opened, usedSet, marked}
-use Rattle.layout.specs.Part.{decodeOf, runOf}
-use Rattle.layout.specs.Reading.{firstOf, reads, readOf}
-use Rattle.layout.specs.Record.{recordOf, laidOn}
-use Rattle.layout.specs.Sizes.{header, head, version, recordSize, leastUsed, lastProducer}
-use Rattle.steps.specs.Bytes.{put as putBytes, over, copyInto, bytesBy}
-use Rattle.steps.specs.Fits.{phaseFits, fitsOf}
-use Rattle.steps.specs.Producer.{placeAt}
-use Rattle.steps.specs.Rows.{readRow, judgeRow, swapRow, addRow, lookRow, seeRow, setRow, chunkOf, writeRow}
-use Rattle.steps.specs.Step.{rowOf, commitBy, movedBy, stepBy, partAt}
-use Rattle.ring.specs.Calls.{freshOf, offerOf, offerBytes, flushOf, stepped, stepOf, stepBytes, getOf, putOf, spanOf, heldOf}
-use Rattle.ring.specs.Refusals.{knownOf, freshRefusal, offerRefusal, flushRefusal, stepRefusal, getRefusal, putRefusal}
-use Rattle.ring.specs.World.{Call, offer, flush, step, get, put, codeOf, after}
-use Rattle.history.specs.History.{Moment, noteRow, noteCall, next, ends, fresh}
-use Rattle.history.specs.Lists.{only, EachFrom, sumBy}
-use Rattle.history.specs.Log.{entered, allOccupied, tooShort, noteOffer, noteFlush, noteJudge, noteFate, pieces, placing, noteReserved, noteSlot, notePad, noteOpen, noteAdd, noteGet, notePut}
-use Rattle.history.specs.Promise.{Promise, writtenSlots, remaining, recordsIn, bytesIn, slotsIn, lostIn}
-use Rattle.history.proofs.Decided.{numbers, answers, both, unless, where-so, lists, each, recs, runs, readings, fates, losses, counts, once, stand, delivered, parts, held, promise}
+use Rattle.ring.specs.World.{Call, offer, flush, step, get, put}
+use Rattle.history.specs.History.{Moment, ends, fresh}
+use Rattle.history.specs.Promise.{Promise}
+use Rattle.history.proofs.Decided.{counts, delivered}
 
 -- n steps of p; those past its end are refused
 abbrev pub run : (p n : ℕ) → List Call
@@ -45,7 +25,7 @@ abbrev pub worked : Moment
 worked = end 0 (event 0 1 2 ++ event 1 2 40 ++ get ∷ [] ++ event 0 3 2 ++ put ∷ [] ++ event 0 4 2)
 
 -- a save interrupted before its first byte: others fill its part and close it, and get is refused while its slot is empty
-abbrev interrupted : List Call
+abbrev pub interrupted : List Call
 interrupted = offer 0 1 (replicate 4 1) ∷ run 0 3 ++ event 1 2 20 ++ event 2 3 40 ++ get ∷ []
 
 abbrev pub waiting : Moment
@@ -56,7 +36,7 @@ abbrev pub resumed : Moment
 resumed = end 0 (interrupted ++ run 0 40 ++ get ∷ [])
 
 -- every part is occupied: a loss, confirmed by the second look at the write count
-abbrev filled : List Call
+abbrev pub filled : List Call
 filled = event 1 1 44 ++ event 1 2 2
 
 abbrev pub confirmed : Moment
@@ -84,7 +64,9 @@ tally m =
 abbrev pub Tried : Moment → List ℕ → Type 0
 Tried m counts = (tally m ≡ counts) × Promise m
 
-pub tried :
+-- .. of each of them
+abbrev pub AllTried : Type 0
+AllTried =
     Tried worked (150 ∷ 64 ∷ 4 ∷ 3 ∷ 1 ∷ 1 ∷ [])
     × Tried waiting (124 ∷ 0 ∷ 3 ∷ 2 ∷ 0 ∷ 0 ∷ [])
     × Tried resumed (124 ∷ 0 ∷ 3 ∷ 3 ∷ 0 ∷ 1 ∷ [])
@@ -92,21 +74,3 @@ pub tried :
     × Tried unconfirmed (188 ∷ 64 ∷ 4 ∷ 4 ∷ 0 ∷ 1 ∷ [])
     × Tried flushed (64 ∷ 0 ∷ 1 ∷ 1 ∷ 0 ∷ 1 ∷ [])
     × Tried wrapped (114 ∷ 0 ∷ 4 ∷ 4 ∷ 0 ∷ 3 ∷ [])
-unfolding flatten onOf pastOf roundOf raisesOf readyOf fitOf slotOf placed placeOf fullOf plusOf sinceOf startOf leftOf nextOf
-    byteOf partOf toCommitOf sizeOf partsOf producersOf shapeOf add32 sub32 word2 word4 opened usedSet marked decodeOf runOf firstOf
-    reads readOf recordOf laidOn header head version recordSize leastUsed lastProducer putBytes over copyInto bytesBy phaseFits fitsOf
-    placeAt readRow judgeRow swapRow addRow lookRow seeRow setRow chunkOf writeRow rowOf commitBy movedBy stepBy partAt freshOf
-    offerOf offerBytes flushOf stepped stepOf stepBytes getOf putOf spanOf heldOf knownOf freshRefusal offerRefusal flushRefusal
-    stepRefusal getRefusal putRefusal codeOf after noteRow noteCall next ends fresh only EachFrom sumBy entered allOccupied tooShort
-    noteOffer noteFlush noteJudge noteFate pieces placing noteReserved noteSlot notePad noteOpen noteAdd noteGet notePut writtenSlots
-    remaining recordsIn bytesIn slotsIn lostIn numbers answers both unless where-so lists each recs runs readings fates losses counts
-    once stand delivered parts held promise
-tried = (
-  (refl, promise worked .yes refl),
-  (refl, promise waiting .yes refl),
-  (refl, promise resumed .yes refl),
-  (refl, promise confirmed .yes refl),
-  (refl, promise unconfirmed .yes refl),
-  (refl, promise flushed .yes refl),
-  (refl, promise wrapped .yes refl),
-)

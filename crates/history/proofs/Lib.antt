@@ -17,6 +17,11 @@ pub mod Swap
 pub mod Simple
 pub mod Ready
 pub mod Reader
+pub mod Fitting
+pub mod Good
+pub mod RowsAlone
+pub mod RowsSwap
+pub mod RowsCommit
 pub mod Rows
 pub mod Memory
 pub mod Effects
@@ -54,3 +59,6 @@ pub mod Demand
 pub mod Decided
 pub mod Histories
 pub mod WrongWorlds
+pub mod Machines
+pub mod Errors
+pub mod Trials

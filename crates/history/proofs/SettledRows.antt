@@ -28,7 +28,7 @@ use Rattle.history.proofs.Invariant.{says, Event, PInv, Core}
 use Rattle.history.proofs.Memory.{Stands, write-length, write-keeps}
 use Rattle.history.proofs.Places.{close-writes, open-writes, write-writes, end-writes}
 use Rattle.history.proofs.Reserve.{Open, pieces-open}
-use Rattle.history.proofs.Rows.{fits-phase, fits-done, not-zero, open-event, chunk-end, chunk-sum}
+use Rattle.history.proofs.Fitting.{fits-phase, fits-done, not-zero, open-event, chunk-end, chunk-sum}
 use Rattle.history.proofs.Settled.{Same, same-none, same-append, same-noted}
 use Rattle.history.proofs.View.{Truth, View, viewOf, at, work, mark, piece}
 
