@@ -4,9 +4,9 @@ use mathlib.Core.Bool.{cond}
 use mathlib.Core.List.{List, [], _∷_, _++_}
 use lib.Dec.{eqb}
 use lib.ListN.{replicate}
-use Rattle.replay.specs.declared.play.Play.{Play}
-use Rattle.replay.specs.Line.{lineOf}
-use Rattle.replay.specs.Play.{startPlay, doneOf, doneMemory, doneDesks}
+use Rattle.script.specs.declared.play.Play.{Play}
+use Rattle.lines.specs.Line.{lineOf}
+use Rattle.script.specs.Play.{startPlay, doneOf, doneMemory, doneDesks}
 use Rattle.replay.specs.Text.{toldOf}
 
 -- a last line without a line feed counts, unless nothing stands there

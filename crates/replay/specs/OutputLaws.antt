@@ -6,16 +6,16 @@ use mathlib.Core.Path.{_≡_, refl, sym, ap, ap₂, subst, _∙_}
 use lib.Dec.{T, eqb, ltb, leb}
 use lib.ListN.{replicate}
 use borrow.Author.Tests.{eqb-true, eqb-false}
-use Rattle.replay.specs.declared.line.Line.{Line}
-use Rattle.replay.specs.declared.play.Play.{Play}
-use Rattle.replay.specs.declared.reading.Reading.{Reading}
-use Rattle.replay.specs.Line.{lineOf}
+use Rattle.lines.specs.declared.line.Line.{Line}
+use Rattle.script.specs.declared.play.Play.{Play}
+use Rattle.lines.specs.declared.reading.Reading.{Reading}
+use Rattle.lines.specs.Line.{lineOf}
 use Rattle.replay.specs.Output.{lastLine, linesFrom, printed, outputOf, together}
-use Rattle.replay.specs.Play.{startPlay, doneOf, doneMemory, doneDesks}
+use Rattle.script.specs.Play.{startPlay, doneOf, doneMemory, doneDesks}
 use Rattle.replay.specs.Program.{State, stateOf, startProgram, linedOf, fedOf, saidOf, fedAll, saidAll, lastSaid, inParts}
 use Rattle.replay.specs.ProgramLaws.{fed-over, said-over, fed-line, said-line, fed-byte, said-byte, last-over, last-none, last-line}
-use Rattle.replay.specs.Reading.{startOf, firstOf, letterOf, numbersOf, limitOf, digitOf, spaceOf, takeOf, takeAll}
-use Rattle.replay.specs.ReadingLaws.{reads}
+use Rattle.lines.specs.Reading.{startOf, firstOf, letterOf, numbersOf, limitOf, digitOf, spaceOf, takeOf, takeAll}
+use Rattle.lines.specs.ReadingLaws.{reads}
 use Rattle.replay.specs.Text.{toldOf}
 
 -- ---- parts of the input

@@ -3,11 +3,11 @@ use Prim.Native.Nat.{ℕ}
 use mathlib.Core.Bool.{cond}
 use mathlib.Core.List.{List, [], _∷_, _++_}
 use lib.Dec.{eqb}
-use Rattle.replay.specs.declared.play.Play.{Play}
+use Rattle.script.specs.declared.play.Play.{Play}
 use Rattle.replay.specs.declared.program.Program.{Program}
-use Rattle.replay.specs.declared.reading.Reading.{Reading}
-use Rattle.replay.specs.Play.{startPlay, doneOf, doneMemory, doneDesks}
-use Rattle.replay.specs.Reading.{startOf, takeOf, lineIn}
+use Rattle.lines.specs.declared.reading.Reading.{Reading}
+use Rattle.script.specs.Play.{startPlay, doneOf, doneMemory, doneDesks}
+use Rattle.lines.specs.Reading.{startOf, takeOf, lineIn}
 use Rattle.replay.specs.Text.{toldOf}
 
 -- the line being read, the ring, and the buffers for ring memory and desks

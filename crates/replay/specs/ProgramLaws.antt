@@ -8,7 +8,7 @@ use lib.ListN.{length, drop, getD, drop-of-length-le}
 use lib.Seq.{drop-cons}
 use borrow.Author.Tests.{eq-eqb, ne-eqb}
 use Rattle.replay.specs.Program.{State, linedOf, fedOf, saidOf, fedAll, saidAll, lastSaid}
-use Rattle.replay.specs.Reading.{takeOf}
+use Rattle.lines.specs.Reading.{takeOf}
 use Rattle.replay.specs.Text.{toldOf}
 
 -- ---- a byte

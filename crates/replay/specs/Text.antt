@@ -3,7 +3,7 @@ use Prim.Native.Nat.{ℕ, zero, suc, _+_, _/_, _%_}
 use mathlib.Core.Bool.{cond}
 use mathlib.Core.List.{List, [], _∷_, _++_}
 use lib.Dec.{eqb, ltb}
-use Rattle.replay.specs.declared.play.Play.{Play}
+use Rattle.script.specs.declared.play.Play.{Play}
 
 -- a number in decimal, of k digits at most, with no zero in front
 unfoldable pub decimalBy : (k n : ℕ) → List ℕ

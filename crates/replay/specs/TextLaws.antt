@@ -12,7 +12,7 @@ use borrow.Author.Tests.{lt-ltb, le-ltb}
 use Rattle.io.specs.Digits.{glyph, digits, Fewest}
 use Rattle.layout.specs.Bytes.{copied}
 use Rattle.layout.specs.BytesLaws.{copied-same}
-use Rattle.replay.specs.declared.play.Play.{Play}
+use Rattle.script.specs.declared.play.Play.{Play}
 use Rattle.replay.specs.Text.{decimalBy, decimalOf, endOf, joined, numbersTold, badLine, toldOf}
 
 -- ---- a text behind the first bytes of a buffer

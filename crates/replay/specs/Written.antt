@@ -1,9 +1,9 @@
 -- A line written out: its word and its numbers in decimal, one space between two fields.
 use Prim.Native.Nat.{ℕ, _≤_}
 use mathlib.Core.List.{List, [], _∷_, _++_}
-use Rattle.replay.specs.declared.line.Line.{Line}
-use Rattle.replay.specs.declared.line.Line.the-variants.{New, Offer, Flush, Step, Run, Get, Put, Bad}
-use Rattle.replay.specs.Line.{most, wordNew, wordOffer, wordFlush, wordStep, wordRun, wordGet, wordPut}
+use Rattle.lines.specs.declared.line.Line.{Line}
+use Rattle.lines.specs.declared.line.Line.the-variants.{New, Offer, Flush, Step, Run, Get, Put, Bad}
+use Rattle.lines.specs.Line.{most, wordNew, wordOffer, wordFlush, wordStep, wordRun, wordGet, wordPut}
 use Rattle.replay.specs.Text.{decimalOf}
 
 unfoldable pub spelled : (word : List ℕ) (numbers : List ℕ) → List ℕ

@@ -8,10 +8,10 @@ use native.Mathlib.Omega.{arith}
 use lib.Dec.{eqb, ltb}
 use lib.ListN.{length, length-append}
 use borrow.Author.Tests.{ne-eqb, le-ltb, ltb-true, le-leb}
-use Rattle.replay.specs.declared.line.Line.{Line}
-use Rattle.replay.specs.declared.line.Line.the-variants.{New, Offer, Flush, Step, Run, Get, Put, Bad}
-use Rattle.replay.specs.Line.{firstField, laterFields, same, isDigit, allDigits, valueFrom, valueOf, isNumber, fit, most, formOf, lineOf, wordNew, wordOffer, wordFlush, wordStep, wordRun, wordGet, wordPut}
-use Rattle.replay.specs.ReadingLaws.{no-true, both-true}
+use Rattle.lines.specs.declared.line.Line.{Line}
+use Rattle.lines.specs.declared.line.Line.the-variants.{New, Offer, Flush, Step, Run, Get, Put, Bad}
+use Rattle.lines.specs.Line.{firstField, laterFields, same, isDigit, allDigits, valueFrom, valueOf, isNumber, fit, most, formOf, lineOf, wordNew, wordOffer, wordFlush, wordStep, wordRun, wordGet, wordPut}
+use Rattle.lines.specs.ReadingLaws.{no-true, both-true}
 use Rattle.replay.specs.Text.{decimalBy, decimalOf}
 use Rattle.replay.specs.Written.{spelled, written, Fits}
 

@@ -4,10 +4,7 @@
 ghost use Prim.Native.Nat.{_*_, _≤_};
 ghost use lib.ListN.{length};
 
-mod line;
-mod play;
 mod program;
-mod reading;
 mod text;
 
 use program::Program;

@@ -5,8 +5,8 @@ ghost use Prim.Native.Nat.{_+_, _*_, _≤_};
 ghost use lib.ListN.{length, take};
 ghost use Rattle.replay.specs.Program.{stateOf, linedOf, fedOf, saidOf, fedAll, saidAll, lastSaid, startProgram};
 ghost use Rattle.replay.specs.Text.{toldOf};
-use super::play::Play;
-use super::reading::Reading;
+use lines::reading::Reading;
+use script::play::Play;
 
 // The line that is being read, the ring and what was answered last, and how many bytes are to be printed.
 pub struct Program {
@@ -38,7 +38,7 @@ impl Program {
         let reading = self.reading;
         let play = self.play;
         let next = play.does(reading.line(), memory, desks);
-        let used = next.tell(out, self.used);
+        let used = super::text::tell(next, out, self.used);
         Program {
             reading: Reading::start(),
             play: next,

@@ -4,7 +4,7 @@ ghost use mathlib.Core.Path.{_≡_};
 ghost use Prim.Native.Nat.{_+_, _≤_, _<_};
 ghost use lib.ListN.{length, take};
 ghost use Rattle.replay.specs.Text.{decimalOf, endOf, joined, numbersTold, badLine, toldOf};
-use super::play::Play;
+use script::play::Play;
 
 // Copies a text behind the first bytes of a buffer, and answers how many there are then.
 fn put_text(out: &mut [u8], at: usize, text: &[u8]) -> usize
@@ -56,31 +56,29 @@ fn put_numbers(out: &mut [u8], at: usize, numbers: [u32; 6]) -> usize
     used
 }
 
-impl Play {
-    // The numbers that a line prints: answer, write, read, offered, written, lost.
-    fn numbers(self) -> [u32; 6]
-        ensures { λ r. ⌜ r ≡ numbersTold self ⌝ }
-    {
-        let ring = self.ring;
-        [
-            self.answer,
-            ring.write.0,
-            ring.read.0,
-            ring.offered,
-            ring.written,
-            ring.lost,
-        ]
-    }
+// The numbers that a line prints: answer, write, read, offered, written, lost.
+fn numbers(play: Play) -> [u32; 6]
+    ensures { λ r. ⌜ r ≡ numbersTold play ⌝ }
+{
+    let ring = play.ring;
+    [
+        play.answer,
+        ring.write.0,
+        ring.read.0,
+        ring.offered,
+        ring.written,
+        ring.lost,
+    ]
+}
 
-    // Puts what the last line prints behind the first bytes of a buffer, and answers how many there are then.
-    pub(crate) fn tell(self, out: &mut [u8], at: usize) -> usize
-        requires { ⌜ at + 66 ≤ length (now out) ⌝ }
-        ensures { λ r. ⌜ r ≤ at + 66 ⌝ }
-        ensures { λ r. ⌜ take r (now (out .exit)) ≡ take at (now (out .entry)) ++ toldOf self ⌝ }
-    {
-        if self.over {
-            return put_text(out, at, b"bad line\n");
-        }
-        put_numbers(out, at, self.numbers())
+// Puts what the last line prints behind the first bytes of a buffer, and answers how many there are then.
+pub(crate) fn tell(play: Play, out: &mut [u8], at: usize) -> usize
+    requires { ⌜ at + 66 ≤ length (now out) ⌝ }
+    ensures { λ r. ⌜ r ≤ at + 66 ⌝ }
+    ensures { λ r. ⌜ take r (now (out .exit)) ≡ take at (now (out .entry)) ++ toldOf play ⌝ }
+{
+    if play.over {
+        return put_text(out, at, b"bad line\n");
     }
+    put_numbers(out, at, numbers(play))
 }

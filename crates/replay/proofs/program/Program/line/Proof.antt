@@ -1,8 +1,8 @@
 -- `replay::program::Program::line` meets its contract.
 use mathlib.Core.Path.{ap, _∙_}
 use denote.Ref.{now}
-use Rattle.replay.specs.declared.line.Line.{Line}
-use Rattle.replay.specs.Play.{doneOf, doneMemory, doneDesks}
+use Rattle.lines.specs.declared.line.Line.{Line}
+use Rattle.script.specs.Play.{doneOf, doneMemory, doneDesks}
 use Rattle.replay.specs.Program.{linedOf}
 use borrow.Author.Needs.{needs}
 use Rattle.replay.proofs.program.Program.line.Statement.{statement}

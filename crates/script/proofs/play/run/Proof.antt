@@ -1,0 +1,57 @@
+-- `script::play::run` meets its contract.
+use mathlib.Core.List.{List, _++_}
+use Prim.Native.Nat.{ℕ, _*_}
+use mathlib.Core.Path.{sym, ap₂, _∙_}
+use lib.Seq.{length-take-le}
+use denote.Ref.{now}
+use Rattle.ring.specs.Run.{runOf, runBytes}
+use Rattle.script.specs.Play.{answerOf, memoryOf}
+use Rattle.script.specs.PlayLaws.{front, behind}
+use borrow.Author.Needs.{needs}
+use Rattle.script.proofs.play.run.Statement.{statement}
+use Rattle.script.proofs.play.run.Tie as tie
+
+lent-requires : tie.Need-lent-requires
+lent-requires c κs = search needs
+
+lent-requires-2 : tie.Need-lent-requires-2
+lent-requires-2 c κs = search needs
+
+slice-relend-prefix-run : tie.Need-slice-relend-prefix-run
+slice-relend-prefix-run c = search needs
+
+slice-aggregate-run : tie.Need-slice-aggregate-run
+slice-aggregate-run c = sym (length-take-le _ _ (search needs))
+
+slice-aggregate-run-2 : tie.Need-slice-aggregate-run-2
+slice-aggregate-run-2 c = sym (length-take-le _ _ (search needs))
+
+run-requires : tie.Need-run-requires
+run-requires c κs = search needs
+
+same-length : tie.Need-same-length
+same-length c = search needs
+
+returns : tie.Need-returns
+unfolding answerOf memoryOf
+returns c =
+    let a = c .before .before .before .before .before .before .before .before .before .args in
+    let l = c .before .before .before .before .before .before .lent .ensures in
+    let f = front (a .ring .size * a .ring .parts) _ (now (a .memory)) l in
+    let g = front (a .ring .producers * a .ring .size) _ (now (a .desks)) (c .before .before .before .before .before .lent2 .ensures) in (
+      c .before .before .run .ensures .0 ∙ ap₂ (λ (x y : List ℕ). runOf (a .ring) (a .p) x y) f g,
+      ap₂ (λ (x y : List ℕ). x ++ y) (c .before .before .run .ensures .1 ∙ ap₂ (λ (x y : List ℕ). runBytes (a .ring) (a .p) x y) f g) (behind (a .ring .size * a .ring .parts) _ (now (a .memory)) l),
+    )
+
+pub run-spec : {M : Type 1} → statement M
+run-spec =
+    tie.close
+    (tie.spec
+    lent-requires
+    lent-requires-2
+    slice-relend-prefix-run
+    slice-aggregate-run
+    slice-aggregate-run-2
+    run-requires
+    same-length
+    returns)
