@@ -8,7 +8,7 @@ use native.Mathlib.Nat.{mod-lt, le-refl, le-trans, mul-le-mul-right}
 use native.Mathlib.Decide.{decLt, ℕ-discrete}
 use native.Mathlib.Omega.{arith}
 use lib.Dec.{T}
-use lib.ListN.{length, getD, set, length-set}
+use lib.ListN.{length, getD, set}
 use lib.Seq.{getD-set-same, getD-set-other}
 use Rattle.counts.specs.Commit.{commit, onOf}
 use Rattle.counts.specs.Wrap.{add32}
@@ -17,9 +17,9 @@ use Rattle.steps.specs.Step.{rowOf}
 use Rattle.history.specs.Lists.{sumBy}
 use Rattle.history.specs.Log.{Piece, noPiece, done}
 use Rattle.history.proofs.Chain.{did, did-in, did-out, did-open, chain-high, chain-fine, chain-noted}
-use Rattle.history.proofs.Frame.{KeepsAt, keeps-other, keeps-not-mine, Mine, frame, each-one, raised, remains-set}
+use Rattle.history.proofs.Frame.{KeepsAt, keeps-other, keeps-not-mine, Mine, frame, each-one, set-record, set-count, raised, remains-set}
 use Rattle.history.proofs.Geometry.{n-pos, window-inj}
-use Rattle.history.proofs.Invariant.{says, saysOf, PInv, Core}
+use Rattle.history.proofs.Invariant.{says, saysOf, PInv, Own, Core}
 use Rattle.history.proofs.Move.{calm, moved, move}
 use Rattle.history.proofs.Sums.{each-set, sum-set}
 use Rattle.history.proofs.View.{View, at, work, mark, piece, withC, withCommit, withPieces, stepped}
@@ -80,7 +80,7 @@ module _ (v : View) (p : ℕ) (lt : p < v .P) (I : Core v) (i j m ph : ℕ) (jlt
       getD-set-other (v .truth .C) i (k % v .N) _ 0 differ ∙ I .win k lo hi ∙ omega (arith, sum k, did-out k (done (piece v j)) ne)
 
   framed : (o : ℕ) (q : Producer) → ((x : ℕ) → Mine q (work v o) x → KeepsAt o (v .pieces) pieces′ x) →
-      PInv (v .S) (v .N) o q (work v o) (mark v o) (v .W) (v .truth .lo) (v .truth .C) (v .truth .Q) (v .pieces) →
+      Own v o q (work v o) (mark v o) →
       PInv (v .S) (v .N) o q (work v o) (mark v o) (v .W) (v .truth .lo) C′ (v .truth .Q) pieces′
   framed o q keep h =
       frame (v .S) (v .N) o q (work v o) (mark v o) (v .W) (v .truth .lo) (v .W) (v .truth .lo) (v .truth .C) (v .truth .Q) C′ (v .truth .Q) (v .pieces) pieces′
@@ -91,15 +91,7 @@ module _ (v : View) (p : ℕ) (lt : p < v .P) (I : Core v) (i j m ph : ℕ) (jlt
   add-keeps =
       record {
         shape = I .shape;
-        lens = record {
-          producer = rw length-set (I .lens .producer);
-          works = I .lens .works;
-          marks = I .lens .marks;
-          commit = rw length-set (I .lens .commit);
-          seq = I .lens .seq;
-          C = rw length-set (I .lens .C);
-          Q = I .lens .Q;
-        };
+        lens = set-record (set-count (I .lens) i _ _) p _;
         rem = record {
           write = I .rem .write;
           read = I .rem .read;

@@ -24,7 +24,8 @@ use Rattle.history.specs.Lists.{only}
 use Rattle.history.specs.Log.{Event, isWritten, isLost, Log, started, offered, workAt, at as startAt, noteOffer, noteFlush, noteGet, notePut}
 use Rattle.history.proofs.Book.{owning, Owns, Takes, Book}
 use Rattle.history.proofs.BookLists.{many-append}
-use Rattle.history.proofs.BookSteps.{stays, quiet, begin}
+use Rattle.history.proofs.BookFrame.{stays}
+use Rattle.history.proofs.BookSteps.{quiet, begin}
 use Rattle.history.proofs.Geometry.{s-pos, at-mod}
 use Rattle.history.proofs.Invariant.{says}
 

@@ -20,7 +20,8 @@ use Rattle.ring.specs.declared.state.Ring.{Ring}
 use Rattle.ring.specs.State.{at, sharedAt, storedOf}
 use Rattle.history.specs.Log.{written, Event, Piece, Work, Log, noWork, workAt, pieceAt, withPieces, done, noted, pieces}
 use Rattle.history.proofs.Book.{owning, Owns, Owner, Entries, Book}
-use Rattle.history.proofs.BookSteps.{Stays, stays, quiet}
+use Rattle.history.proofs.BookFrame.{Stays, stays}
+use Rattle.history.proofs.BookSteps.{quiet}
 use Rattle.history.proofs.Invariant.{says, PInv, Core, KeepOf}
 use Rattle.history.proofs.View.{Truth, viewOf, mark}
 use Rattle.history.proofs.BookNotes.{stays-set, reach-set}

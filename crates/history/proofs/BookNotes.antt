@@ -14,7 +14,7 @@ use Rattle.history.specs.Lists.{many}
 use Rattle.history.specs.Log.{isopen, written, lost, isWritten, isLost, Event, Piece, Work, noPiece, isHeading, pieces, placing}
 use Rattle.history.proofs.Book.{noEvent, Tally, Reach}
 use Rattle.history.proofs.BookLists.{tick, many-set}
-use Rattle.history.proofs.BookSteps.{Stays}
+use Rattle.history.proofs.BookFrame.{Stays}
 use Rattle.history.proofs.Sums.{each-set}
 
 pub isopen-written : isopen ≡ written → ⊥

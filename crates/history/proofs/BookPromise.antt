@@ -10,12 +10,13 @@ use borrow.Author.Tests.{eq-eqb, ne-eqb, eqb-true, lt-leb, le-leb}
 use Rattle.counts.specs.Tests.{and-left, and-right, all-at}
 use Rattle.counts.specs.Wrap.{word}
 use Rattle.steps.specs.Producer.{flushing}
-use Rattle.steps.specs.Step.{Whose, padding, heading, slot, rows, nothing, rowOf}
+use Rattle.steps.specs.Step.{slot, rows, nothing, rowOf}
 use Rattle.ring.specs.State.{at}
 use Rattle.history.specs.Lists.{many}
 use Rattle.history.specs.Log.{Fate, isopen, written, lost, isOpen, isWritten, isLost, Piece, isSlot, noPiece, workAt, eventAt, pieceAt}
 use Rattle.history.specs.History.{Moment}
 use Rattle.history.specs.Promise.{atWork, Fates, Losses, Counts, isWrittenSlot, writtenSlots, Once}
+use Rattle.history.proofs.Chain.{is-slot}
 use Rattle.history.proofs.Book.{owning, Owns, noEvent, Book}
 use Rattle.history.proofs.BookWhole.{WholeAt}
 use Rattle.history.proofs.Good.{Good}
@@ -43,11 +44,6 @@ owning-is k = go (decLt k 20)
     go (no h) = rw (lt-leb k 16 (omega arith), le-leb 1 k (omega arith)) (sym (ap owning (List·getD-eq-default rows nothing {n = k} (omega arith))))
 
 -- ---- what a slot is
-
-slot-is : (w : Whose) → isSlot w ≡ true → w ≡ slot
-slot-is padding e = absurd (false≢true e)
-slot-is heading e = absurd (false≢true e)
-slot-is slot e = refl
 
 written-is : (f : Fate) → isWritten f ≡ true → f ≡ written
 written-is isopen e = absurd (false≢true e)
@@ -112,7 +108,7 @@ module _ (m : Moment) (B : Book (m .world .ring) (m .log)) where
   counted i j e =
       let a = and-left (isWrittenSlot (m .log) (pieceAt (m .log) j)) _ e in
       let b = eqb-true (pieceAt (m .log) j .event) i (and-right (isWrittenSlot (m .log) (pieceAt (m .log) j)) _ e) in (
-        slot-is _ (and-left (isSlot (pieceAt (m .log) j .whose)) _ a),
+        is-slot _ (and-left (isSlot (pieceAt (m .log) j .whose)) _ a),
         ap (λ y. isWritten (eventAt (m .log) y .fate)) (sym b) ∙ and-right (isSlot (pieceAt (m .log) j .whose)) _ a,
         b,
       )

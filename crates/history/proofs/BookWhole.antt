@@ -30,6 +30,7 @@ use Rattle.history.proofs.Accepted.{done, by-answer, offer-ok, flush-ok
 use Rattle.history.proofs.BookCalls.{size-is, offer-book, flush-book, get-book, put-book, Fresh, fresh-ok, start-round, fresh-book}
 use Rattle.history.proofs.BookGood.{Whole, step-whole}
 use Rattle.history.proofs.Chain.{Chain}
+use Rattle.history.proofs.Frame.{idle-keeps}
 use Rattle.history.proofs.Geometry.{s-pos, n-pos, at-div, part-wrap}
 use Rattle.history.proofs.Invariant.{says, saysOf, Core, KeepOf}
 use Rattle.history.proofs.PremiseLaws.{Near, call-start}
@@ -233,20 +234,7 @@ module _ (S N P start : ℕ) (low : start < word) (F : Fresh S N P start) where
         win = λ k a b. lap-is k a b ∙ omega arith;
         seqs = λ i. le-refl _;
         prod = λ p h.
-            rw (getD-replicate 8 p nobody nobody (omega (arith, F .shape .producers-high))) (record {
-              sized = λ u. absurd u;
-              begun = λ u. absurd u;
-              looks = λ u. absurd u;
-              roomy = λ u. absurd u;
-              shuts = λ u. absurd u;
-              pads = λ u. absurd u;
-              heads = λ u. absurd u;
-              slots = λ u. absurd u;
-              raises = λ u. absurd u;
-              sets = λ u. absurd u;
-              none = λ u. absurd u;
-              all = λ u. absurd u;
-            });
+            rw (getD-replicate 8 p nobody nobody (omega (arith, F .shape .producers-high))) (idle-keeps S N p nobody _ _ start (start / S) _ _ [] refl);
         old = λ j h. absurd (omega arith);
       }
     where

@@ -14,7 +14,7 @@ use Rattle.history.specs.Log.{Piece, noPiece, done}
 use Rattle.history.proofs.Bytes.{Last, PBytes, Bytes}
 use Rattle.history.proofs.BytesRows.{BytesOf, NoAdd, isAdd, no-add, add-bytes}
 use Rattle.history.proofs.Geometry.{header-short}
-use Rattle.history.proofs.Invariant.{says, saysOf, Event, PadHeld, HeadHeld, SlotHeld, PInv, Core}
+use Rattle.history.proofs.Invariant.{says, saysOf, Event, PadHeld, HeadHeld, SlotHeld, Own, Core}
 use Rattle.history.proofs.Memory.{Stands}
 use Rattle.history.proofs.View.{View, at, work, mark, piece}
 
@@ -35,7 +35,7 @@ head-inside : (S : ℕ) (x : Piece) → 64 ≤ S → x .offset ≡ 0 → x .size
 head-inside S x s o z l = omega (arith, header-short S s)
 
 module _ (v : View) (I : Core v) (mem desks : List ℕ) (b : ℕ → List ℕ) (x : BytesOf v mem desks b) (p : ℕ) (lt : p < v .P) where
-  mine : PInv (v .S) (v .N) p (at v p) (work v p) (mark v p) (v .W) (v .truth .lo) (v .truth .C) (v .truth .Q) (v .pieces)
+  mine : Own v p (at v p) (work v p) (mark v p)
   mine = I .prod p lt
 
   wrote : PBytes (v .S) (v .N) p (at v p) (work v p) (v .pieces) mem desks (b p)

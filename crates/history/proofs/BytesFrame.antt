@@ -15,7 +15,7 @@ use Rattle.history.specs.Log.{Piece}
 use Rattle.history.proofs.Add.{open-low, open-high}
 use Rattle.history.proofs.Bytes.{Last, Whole, PBytes, Claim, of-slot, of-used, of-mark, of-rest, clear-of, claim-fits}
 use Rattle.history.proofs.Chain.{Shape, Fine, chain-apart, chain-fine, chain-high}
-use Rattle.history.proofs.Invariant.{says, saysOf, slotted-busy, Event, PInv, Core}
+use Rattle.history.proofs.Invariant.{says, saysOf, slotted-busy, Event, Own, Core}
 use Rattle.history.proofs.Memory.{Stands, Clear, before, behind, write-keeps}
 use Rattle.history.proofs.View.{View, at, work, mark, piece}
 
@@ -98,7 +98,7 @@ module _ (v : View) (I : Core v) (mem : List ℕ) (mem-long : length mem ≡ v .
 
   -- what another producer has written
   module _ (p′ : ℕ) (ne : p′ ≢ p) (h : p′ < v .P) (desks b : List ℕ) where
-    theirs : PInv (v .S) (v .N) p′ (at v p′) (work v p′) (mark v p′) (v .W) (v .truth .lo) (v .truth .C) (v .truth .Q) (v .pieces)
+    theirs : Own v p′ (at v p′) (work v p′) (mark v p′)
     theirs = I .prod p′ h
 
     another : (i : ℕ) → piece v i .producer ≡ p′ → i ≢ j

@@ -21,7 +21,7 @@ use Rattle.history.proofs.BytesFrame.{pad-last}
 use Rattle.history.proofs.BytesRows.{frame-bytes, BytesOf, Except, except, with-own, run-bytes, run-stands, run-own}
 use Rattle.history.proofs.Chain.{Fine, chain-fine}
 use Rattle.history.proofs.Frame.{keeps-not-mine}
-use Rattle.history.proofs.Invariant.{says, Event, PadHeld, HeadHeld, SlotHeld, PInv, Core}
+use Rattle.history.proofs.Invariant.{says, Event, PadHeld, HeadHeld, SlotHeld, Own, Core}
 use Rattle.history.proofs.Memory.{Stands, before, behind}
 use Rattle.history.proofs.Sums.{each-of, each-set}
 use Rattle.history.proofs.View.{View, at, work, mark, piece}
@@ -45,7 +45,7 @@ further S N mem k o bytes vs d n same front back i h = go (decLt i d)
         ap (λ y. getD mem ((k * S + y) % (S * N)) 0) (sym e) ∙ back (i - d) (omega arith) ∙ same (i - d) (omega arith) ∙ ap (λ y. getD bytes y 0) f
 
 module _ (v : View) (I : Core v) (mem desks : List ℕ) (b : ℕ → List ℕ) (x : BytesOf v mem desks b) (p : ℕ) (lt : p < v .P) where
-  mine : PInv (v .S) (v .N) p (at v p) (work v p) (mark v p) (v .W) (v .truth .lo) (v .truth .C) (v .truth .Q) (v .pieces)
+  mine : Own v p (at v p) (work v p) (mark v p)
   mine = I .prod p lt
 
   wrote : PBytes (v .S) (v .N) p (at v p) (work v p) (v .pieces) mem desks (b p)

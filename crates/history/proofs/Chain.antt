@@ -2,7 +2,7 @@
 use Prim.Native.Nat.{ℕ, zero, suc, _+_, _*_, _≤_, _<_, min, max}
 use mathlib.Core.Path.{_≡_, refl, ap}
 use mathlib.Core.Logic.{_≢_}
-use mathlib.Core.Bool.{Bool, true, false, cond}
+use mathlib.Core.Bool.{Bool, true, false, cond, false≢true}
 use mathlib.Core.List.{List, [], _∷_, _++_}
 use native.Mathlib.Nat.{not-suc-le-zero, le-of-suc-le-suc}
 use native.Mathlib.Decide.{decLt, ℕ-discrete}
@@ -13,7 +13,7 @@ use borrow.Author.Tests.{eq-eqb, ne-eqb}
 use Rattle.layout.specs.Sizes.{header}
 use Rattle.steps.specs.Step.{Whose, padding, heading, slot}
 use Rattle.history.specs.Lists.{sumBy}
-use Rattle.history.specs.Log.{Piece, noPiece, noted}
+use Rattle.history.specs.Log.{Piece, noPiece, noted, isSlot}
 use Rattle.history.proofs.Sums.{sum-le, sum-eq}
 use Rattle.history.proofs.Geometry.{below}
 
@@ -23,6 +23,11 @@ unfoldable pub Shape : Whose → (S offset size : ℕ) → List ℕ → Type 0
 Shape padding S o n bytes = (header < o) × (o + n ≡ S)
 Shape heading S o n bytes = (o ≡ 0) × (n ≡ header)
 Shape slot S o n bytes = (header ≤ o) × (length bytes ≡ n)
+
+pub is-slot : (y : Whose) → isSlot y ≡ true → y ≡ slot
+is-slot padding e = absurd (false≢true e)
+is-slot heading e = absurd (false≢true e)
+is-slot slot e = refl
 
 -- ---- the chain
 

@@ -1,7 +1,7 @@
 -- What is held decodes to exactly the events reserved in its part.
 use Prim.Native.Nat.{ℕ, suc, _+_, _-_, _*_, _%_, _≤_, _<_}
 use mathlib.Core.Path.{_≡_, refl, sym, ap, ap₂, subst, _∙_}
-use mathlib.Core.Bool.{Bool, true, false≢true}
+use mathlib.Core.Bool.{Bool, true}
 use mathlib.Core.List.{List, [], _∷_, map}
 use native.Mathlib.Nat.{le-refl}
 use native.Mathlib.Omega.{arith}
@@ -15,7 +15,7 @@ use Rattle.layout.specs.Part.{reads}
 use Rattle.layout.specs.Record.{Rec, recordOf, recordsOf}
 use Rattle.layout.specs.RoundTrip.{All, none, more, Fine, record-length}
 use Rattle.layout.specs.Sizes.{header, recordSize, lastProducer}
-use Rattle.steps.specs.Step.{Whose, padding, heading, slot}
+use Rattle.steps.specs.Step.{slot}
 use Rattle.ring.specs.declared.reader.Span.{Span}
 use Rattle.ring.specs.declared.state.Ring.{Ring}
 use Rattle.ring.specs.Calls.{heldOf, span, between}
@@ -25,7 +25,7 @@ use Rattle.history.specs.Log.{isSlot, Piece, Log, noPiece, eventAt, size
 use Rattle.history.specs.Promise.{isWrittenSlot, slotsIn, lostIn}
 use Rattle.history.proofs.Book.{Slot}
 use Rattle.history.proofs.BookGood.{Whole}
-use Rattle.history.proofs.Chain.{Shape, did, chain-fine}
+use Rattle.history.proofs.Chain.{Shape, is-slot, did, chain-fine}
 use Rattle.history.proofs.Contents.{joined, inPart, headOf, Part, part}
 use Rattle.history.proofs.Geometry.{header-short}
 use Rattle.history.proofs.Given.{Given}
@@ -36,11 +36,6 @@ use Rattle.history.proofs.Reading.{joined-records, decodes, holds}
 use Rattle.history.proofs.Settled.{Chosen, only-at}
 use Rattle.history.proofs.SettledRows.{Closed}
 use Rattle.history.proofs.View.{Truth, View, viewOf, piece}
-
-is-slot : (y : Whose) → isSlot y ≡ true → y ≡ slot
-is-slot padding e = absurd (false≢true e)
-is-slot heading e = absurd (false≢true e)
-is-slot slot e = refl
 
 -- records that the layout can hold
 all-fine : (f : Piece → Rec) (l : List Piece) → ((i : ℕ) → i < length l → Fine (f (getD l i noPiece))) → All (map f l)

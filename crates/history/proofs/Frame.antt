@@ -1,8 +1,8 @@
 -- What a step leaves alone.
 use Prim.Native.Nat.{ℕ, _%_, _≤_, _<_}
-use mathlib.Core.Path.{_≡_, refl, sym, ap, _∙_}
+use mathlib.Core.Path.{_≡_, refl, sym, ap, subst, _∙_}
 use mathlib.Core.Logic.{_≢_}
-use mathlib.Core.Bool.{false}
+use mathlib.Core.Bool.{Bool, true, false}
 use mathlib.Core.List.{List, _++_}
 use native.Mathlib.Nat.{le-refl, le-trans}
 use native.Mathlib.Decide.{decLt}
@@ -15,10 +15,12 @@ use Rattle.counts.specs.Commit.{commit}
 use Rattle.counts.specs.Wrap.{word}
 use Rattle.steps.specs.declared.producer.Producer.{Producer}
 use Rattle.steps.specs.Producer.{nobody}
+use Rattle.steps.specs.Step.{idle, rowOf}
 use Rattle.history.specs.Log.{Piece, Work, noPiece, noWork}
 use Rattle.history.proofs.Sums.{each-of}
 use Rattle.history.proofs.View.{Mark, noMark}
-use Rattle.history.proofs.Invariant.{saysOf, Event, Remains, PInv}
+use Rattle.history.proofs.Coords.{partIn, isEntering}
+use Rattle.history.proofs.Invariant.{Says, bits, says, saysOf, Event, fitIn, May, Sized, Looked, Remains, Lens, PInv}
 
 -- ---- the open pieces of producer p
 
@@ -89,15 +91,6 @@ module _ (P : ℕ) (producer : List Producer) (works : List Work) (marks : List 
       (λ h. rw (getD-set-same producer p q nobody a, getD-set-same works p k noWork b, getD-set-same marks p t noMark c) own)
       (λ o ne h. rw (getD-set-other producer p o q nobody ne, getD-set-other works p o k noWork ne, getD-set-other marks p o t noMark ne) (other o h ne))
 
-  -- its record and its mark
-  pub each-two : (q : Producer) (t : Mark) → p < length marks → Z p q (getD works p noWork) t →
-      ((o : ℕ) → o < P → o ≢ p → Z o (getD producer o nobody) (getD works o noWork) (getD marks o noMark)) →
-      (o : ℕ) → o < P → Z o (getD (set producer p q) o nobody) (getD works o noWork) (getD (set marks p t) o noMark)
-  each-two q t c own other =
-      each-of p (λ o. o < P → Z o (getD (set producer p q) o nobody) (getD works o noWork) (getD (set marks p t) o noMark))
-      (λ h. rw (getD-set-same producer p q nobody a, getD-set-same marks p t noMark c) own)
-      (λ o ne h. rw (getD-set-other producer p o q nobody ne, getD-set-other marks p o t noMark ne) (other o h ne))
-
   -- its record
   pub each-one : (q : Producer) → Z p q (getD works p noWork) (getD marks p noMark) →
       ((o : ℕ) → o < P → o ≢ p → Z o (getD producer o nobody) (getD works o noWork) (getD marks o noMark)) →
@@ -106,6 +99,63 @@ module _ (P : ℕ) (producer : List Producer) (works : List Work) (marks : List 
       each-of p (λ o. o < P → Z o (getD (set producer p q) o nobody) (getD works o noWork) (getD marks o noMark))
       (λ h. rw (getD-set-same producer p q nobody a) own)
       (λ o ne h. rw (getD-set-other producer p o q nobody ne) (other o h ne))
+
+-- ---- no list changes its length
+
+module _ {producers : List Producer} {ks : List Work} {ts : List Mark} {commits seqs : List Commit} {Cs Qs : List ℕ}
+    (L : Lens producers ks ts commits seqs Cs Qs) where
+  pub set-record : (p : ℕ) (q : Producer) → Lens (set producers p q) ks ts commits seqs Cs Qs
+  set-record p q = record { producer = rw length-set (L .producer); works = L .works; marks = L .marks; commit = L .commit; seq = L .seq; C = L .C; Q = L .Q }
+
+  pub set-work : (p : ℕ) (k : Work) → Lens producers (set ks p k) ts commits seqs Cs Qs
+  set-work p k = record { producer = L .producer; works = rw length-set (L .works); marks = L .marks; commit = L .commit; seq = L .seq; C = L .C; Q = L .Q }
+
+  pub set-mark : (p : ℕ) (t : Mark) → Lens producers ks (set ts p t) commits seqs Cs Qs
+  set-mark p t = record { producer = L .producer; works = L .works; marks = rw length-set (L .marks); commit = L .commit; seq = L .seq; C = L .C; Q = L .Q }
+
+  pub set-count : (i : ℕ) (x : Commit) (X : ℕ) → Lens producers ks ts (set commits i x) seqs (set Cs i X) Qs
+  set-count i x X =
+      record { producer = L .producer; works = L .works; marks = L .marks; commit = rw length-set (L .commit); seq = L .seq; C = rw length-set (L .C); Q = L .Q }
+
+  pub set-seq : (i : ℕ) (x : Commit) (X : ℕ) → Lens producers ks ts commits (set seqs i x) Cs (set Qs i X)
+  set-seq i x X =
+      record { producer = L .producer; works = L .works; marks = L .marks; commit = L .commit; seq = rw length-set (L .seq); C = L .C; Q = rw length-set (L .Q) }
+
+-- ---- a producer that holds nothing reserved, and raises no seq
+
+abbrev bare : (busy looked judged first : Bool) → Says
+bare b l j f = bits b l j false false false false false f false false
+
+-- what is left to say of it
+pub bare-keeps : (S N p : ℕ) (q : Producer) (k : Work) (t : Mark) (W lo : ℕ) (C Q : List ℕ) (pieces : List Piece) (b l j f : Bool) → saysOf q ≡ bare b l j f →
+    (T b → (Event q → Sized S q t) × (k .began ≤ W)) → (T l → Looked q k t W) →
+    (T j → Event q → q .full ≡ false → isEntering (fitIn S q t) ≡ true → May N lo (partIn (fitIn S q t) S (t .saw))) →
+    (T f → q .done ≡ 0) → PInv S N p q k t W lo C Q pieces
+bare-keeps S N p q k t W lo C Q pieces b l j f e busy looks roomy none =
+    record {
+      sized = λ u. busy (is (λ x. x .busy) u) .0;
+      begun = λ u. busy (is (λ x. x .busy) u) .1;
+      looks = λ u. looks (is (λ x. x .looked) u);
+      roomy = λ u. roomy (is (λ x. x .judged) u);
+      shuts = λ u. absurd (is (λ x. x .shut) u);
+      pads = λ u. absurd (is (λ x. x .padded) u);
+      heads = λ u. absurd (is (λ x. x .headed) u);
+      slots = λ u. absurd (is (λ x. x .slotted) u);
+      raises = λ u. absurd (is (λ x. x .raising) u);
+      sets = λ u. absurd (is (λ x. x .setting) u);
+      none = λ u. none (is (λ x. x .first) u);
+      all = λ u. absurd (is (λ x. x .whole) u);
+    }
+  where
+    is : (bit : Says → Bool) → T (bit (saysOf q)) → T (bit (bare b l j f))
+    is bit u = subst (λ x. T (bit x)) e u
+
+-- .. and of an idle one nothing
+pub idle-keeps : (S N p : ℕ) (q : Producer) (k : Work) (t : Mark) (W lo : ℕ) (C Q : List ℕ) (pieces : List Piece) → rowOf (q .phase) ≡ idle →
+    PInv S N p q k t W lo C Q pieces
+unfolding says
+idle-keeps S N p q k t W lo C Q pieces e =
+    bare-keeps S N p q k t W lo C Q pieces false false false false (ap says e) (λ u. absurd u) (λ u. absurd u) (λ u. absurd u) (λ u. absurd u)
 
 -- ---- a list of counts in which one was raised
 

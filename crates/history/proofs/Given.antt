@@ -1,7 +1,7 @@
 -- What was said of a part that was delivered stays true.
 use Prim.Native.Nat.{ℕ, _+_, _*_, _%_, _<_}
 use mathlib.Core.Path.{_≡_, refl, sym, ap, ap₂, subst, _∙_}
-use mathlib.Core.Bool.{Bool, true, false, _&&_, false≢true}
+use mathlib.Core.Bool.{Bool, true, false, _&&_}
 use mathlib.Core.List.{List, _++_, map}
 use native.Mathlib.Decide.{ℕ-discrete}
 use lib.ListN.{length, getD, set, List·getD-append}
@@ -11,10 +11,11 @@ use Rattle.counts.specs.Wrap.{word}
 use Rattle.layout.specs.Part.{reads, decodeOf, runOf}
 use Rattle.layout.specs.Reading.{records, readOf}
 use Rattle.layout.specs.Sizes.{header}
-use Rattle.steps.specs.Step.{Whose, padding, heading, slot}
+use Rattle.steps.specs.Step.{slot}
 use Rattle.history.specs.Lists.{only, many}
 use Rattle.history.specs.Log.{Event as Offer, lost, isWritten, isSlot, Piece, Log, noPiece, noRec, offered, eventAt, sizes}
 use Rattle.history.specs.Promise.{isWrittenSlot, slotsIn, lostIn}
+use Rattle.history.proofs.Chain.{is-slot}
 use Rattle.history.proofs.Contents.{inPart}
 use Rattle.history.proofs.Settled.{Same, only-at, all-pass, map-same}
 
@@ -64,11 +65,6 @@ module _ (S : ℕ) (l l′ : Log) (k : ℕ) (part : List ℕ) (same : Same k (l 
   event-there i h =
       let c = only-at (inPart k) (l .pieces) noPiece i h in
       subst (λ (x : Piece). x .event < length (l .events)) (c .is) (there (c .j) (c .there) (ap (λ (x : Piece). x .whose) (c .is) ∙ is-slot _ (and-left (isSlot (getD (only (inPart k) (l .pieces)) i noPiece .whose)) _ (c .passes))))
-    where
-      is-slot : (y : Whose) → isSlot y ≡ true → y ≡ slot
-      is-slot padding e = absurd (false≢true e)
-      is-slot heading e = absurd (false≢true e)
-      is-slot slot e = refl
 
   pub given-on : Given S l k part → Given S l′ k part
   unfolding slotsIn lostIn

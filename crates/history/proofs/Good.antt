@@ -1,6 +1,6 @@
 -- The invariant of positions, of a ring and its log; and what a row that writes no shared word keeps of it.
 use Prim.Native.Nat.{ℕ}
-use mathlib.Core.Path.{_≡_, sym, subst, ap₂}
+use mathlib.Core.Path.{_≡_, sym, ap₂, subst}
 use mathlib.Core.List.{List}
 use lib.ListN.{set}
 use lib.Seq.{set-getD}

@@ -30,7 +30,8 @@ use Rattle.history.specs.Log.{Event as Offer, Work, Log, noWork, noRec, 
 use Rattle.history.specs.History.{noteSwap, noteCommit, noteRow}
 use Rattle.history.proofs.Bytes.{PBytes, Bytes}
 use Rattle.history.proofs.BytesRows.{isAdd, no-add}
-use Rattle.history.proofs.Ground.{records, Ground, row-ground}
+use Rattle.history.proofs.Ground.{records, Ground}
+use Rattle.history.proofs.GroundRows.{row-ground}
 use Rattle.history.proofs.Invariant.{says, saysOf, Event, Core, KeepOf}
 use Rattle.history.proofs.Memory.{put-length, put-other}
 use Rattle.history.proofs.Sums.{each-of}

@@ -180,27 +180,31 @@ pub record PInv (S N p : ℕ) (q : Producer) (k : Work) (t : Mark) (W lo : ℕ) 
   pub none : T (saysOf q .first) → q .done ≡ 0
   pub all : T (saysOf q .whole) → q .done ≡ q .z
 
+-- .. in a view, of whatever record, work and mark p is to have there
+abbrev pub Own : View → (p : ℕ) → Producer → Work → Mark → Type 0
+Own v p q k t = PInv (v .S) (v .N) p q k t (v .W) (v .truth .lo) (v .truth .C) (v .truth .Q) (v .pieces)
+
 -- ---- the clauses of the ring
 
 -- arrays of the machine, and the true ones beside them
-pub record Lens (v : View) : Type 0 where
-  pub producer : length (v .producer) ≡ 8
-  pub works : length (v .works) ≡ 8
-  pub marks : length (v .truth .marks) ≡ 8
-  pub commit : length (v .commit) ≡ 16
-  pub seq : length (v .seq) ≡ 16
-  pub C : length (v .truth .C) ≡ 16
-  pub Q : length (v .truth .Q) ≡ 16
+pub record Lens (producers : List Producer) (ks : List Work) (ts : List Mark) (commits seqs : List Commit) (Cs Qs : List ℕ) : Type 0 where
+  pub producer : length producers ≡ 8
+  pub works : length ks ≡ 8
+  pub marks : length ts ≡ 8
+  pub commit : length commits ≡ 16
+  pub seq : length seqs ≡ 16
+  pub C : length Cs ≡ 16
+  pub Q : length Qs ≡ 16
 
 -- the machine's counts are the remainders of the true ones
 abbrev pub Remains : List Commit → List ℕ → Type 0
 Remains l L = (i : ℕ) → getD l i (commit 0) .0 ≡ getD L i 0 % word
 
-pub record Rem (v : View) : Type 0 where
-  pub write : v .write ≡ v .W % word
-  pub read : v .read ≡ v .rk * v .S % word
-  pub commit : Remains (v .commit) (v .truth .C)
-  pub seq : Remains (v .seq) (v .truth .Q)
+pub record Rem (S writes W reads rk : ℕ) (commits seqs : List Commit) (Cs Qs : List ℕ) : Type 0 where
+  pub write : writes ≡ W % word
+  pub read : reads ≡ rk * S % word
+  pub commit : Remains commits Cs
+  pub seq : Remains seqs Qs
 
 -- the window starts at lo, and the write count lies in it
 pub record Span (S N start W lo : ℕ) : Type 0 where
@@ -215,13 +219,13 @@ Window S N lo C pieces = (k : ℕ) → lo ≤ k → k < lo + N → getD C (k % N
 
 pub record Core (v : View) : Type 0 where
   pub shape : Shaped (v .S) (v .N) (v .P)
-  pub lens : Lens v
-  pub rem : Rem v
+  pub lens : Lens (v .producer) (v .works) (v .truth .marks) (v .commit) (v .seq) (v .truth .C) (v .truth .Q)
+  pub rem : Rem (v .S) (v .write) (v .W) (v .read) (v .rk) (v .commit) (v .seq) (v .truth .C) (v .truth .Q)
   pub span : Span (v .S) (v .N) (v .start) (v .W) (v .truth .lo)
   pub chain : Chain (v .S) (v .start) (v .pieces) (v .W)
   pub win : Window (v .S) (v .N) (v .truth .lo) (v .truth .C) (v .pieces)
   pub seqs : (i : ℕ) → getD (v .truth .Q) i 0 ≤ getD (v .truth .C) i 0
-  pub prod : (p : ℕ) → p < v .P → PInv (v .S) (v .N) p (at v p) (work v p) (mark v p) (v .W) (v .truth .lo) (v .truth .C) (v .truth .Q) (v .pieces)
+  pub prod : (p : ℕ) → p < v .P → Own v p (at v p) (work v p) (mark v p)
   pub old : (j : ℕ) → j < length (v .pieces) → piece v j .part < v .truth .lo → piece v j .committed ≡ true
 
 -- what discard mode adds, over counts alone: the window starts at the read count; no seq of it is behind its lap; what is held is raised

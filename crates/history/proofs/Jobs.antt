@@ -7,7 +7,7 @@ use native.Mathlib.Nat.{le-refl, mul-le-mul-left, mul-le-mul-right}
 use native.Mathlib.Decide.{decLt}
 use native.Mathlib.Omega.{arith}
 use lib.Dec.{T, eqb, leb}
-use lib.ListN.{getD, set, length-set}
+use lib.ListN.{getD, set}
 use lib.Seq.{getD-set-same, getD-set-other, set-getD}
 use borrow.Author.Tests.{eqb-false, leb-false}
 use Rattle.counts.specs.declared.commit.Commit.{Commit}
@@ -15,41 +15,45 @@ use Rattle.counts.specs.Commit.{commit, pastOf, raisesOf}
 use Rattle.counts.specs.Wrap.{word, sub32}
 use Rattle.steps.specs.declared.producer.Producer.{Producer}
 use Rattle.steps.specs.Step.{rowOf}
+use Rattle.history.specs.Log.{Work, noWork}
 use Rattle.history.specs.Premise.{half}
-use Rattle.history.proofs.Frame.{keeps-same, frame, each-two, each-one, raised, remains-set}
+use Rattle.history.proofs.Frame.{keeps-same, frame, each-three, each-one, set-record, set-work, set-mark, set-seq, raised, remains-set}
 use Rattle.history.proofs.Geometry.{mod-close}
-use Rattle.history.proofs.Invariant.{says, saysOf, jobAt, Raising, Setting, PInv, Core, Soon, Lag}
+use Rattle.history.proofs.Invariant.{says, saysOf, jobAt, Raising, Setting, PInv, Own, Core, Soon, Lag}
 use Rattle.history.proofs.Move.{calm, moved, marked, move}
 use Rattle.history.proofs.Sums.{each-of}
-use Rattle.history.proofs.View.{Mark, Truth, View, noMark, at, work, mark, withMark, withQ, withSeq, stepped}
+use Rattle.history.proofs.View.{Mark, Truth, View, noMark, at, work, mark, withMark, withWork, withWorks, withQ, withSeq, stepped}
 use Rattle.history.proofs.Window.{C-near, C-far, close}
 
--- ---- p's record and mark are exchanged, and nothing else
+-- ---- p's record, work and mark are exchanged, and nothing else
 
-pub one-keeps : (v : View) (p : ℕ) (q : Producer) (t : Mark) → p < v .P → Core v →
-    PInv (v .S) (v .N) p q (work v p) t (v .W) (v .truth .lo) (v .truth .C) (v .truth .Q) (v .pieces) → Core (stepped p q (withMark p t (v .truth)) v)
-one-keeps v p q t lt I own =
+pub own-keeps : (v : View) (p : ℕ) (q : Producer) (k : Work) (t : Mark) → p < v .P → Core v →
+    Own v p q k t →
+    Core (stepped p q (withMark p t (v .truth)) (withWork p k v))
+own-keeps v p q k t lt I own =
     record {
       shape = I .shape;
-      lens = record {
-        producer = rw length-set (I .lens .producer);
-        works = I .lens .works;
-        marks = rw length-set (I .lens .marks);
-        commit = I .lens .commit;
-        seq = I .lens .seq;
-        C = I .lens .C;
-        Q = I .lens .Q;
-      };
-      rem = record { write = I .rem .write; read = I .rem .read; commit = I .rem .commit; seq = I .rem .seq };
+      lens = set-record (set-work (set-mark (I .lens) p t) p k) p q;
+      rem = I .rem;
       span = I .span;
       chain = I .chain;
       win = I .win;
       seqs = I .seqs;
-      prod = each-two (v .P) (v .producer) (v .works) (v .truth .marks) p
-          (λ o q k t. PInv (v .S) (v .N) o q k t (v .W) (v .truth .lo) (v .truth .C) (v .truth .Q) (v .pieces))
-          (omega (arith, I .lens .producer, I .shape .producers-high)) q t (omega (arith, I .lens .marks, I .shape .producers-high)) own (λ o h ne. I .prod o h);
+      prod = each-three (v .P) (v .producer) (v .works) (v .truth .marks) p
+          (λ o q k t. Own v o q k t)
+          (omega (arith, I .lens .producer, I .shape .producers-high)) q k t (omega (arith, I .lens .works, I .shape .producers-high))
+          (omega (arith, I .lens .marks, I .shape .producers-high)) own (λ o h ne. I .prod o h);
       old = I .old;
     }
+
+-- .. its work is as it was
+same-work : (v : View) (p : ℕ) → withWork p (work v p) v ≡ v
+same-work v p = ap (λ (l : List Work). withWorks l v) (set-getD (v .works) p noWork)
+
+pub one-keeps : (v : View) (p : ℕ) (q : Producer) (t : Mark) → p < v .P → Core v →
+    Own v p q (work v p) t → Core (stepped p q (withMark p t (v .truth)) v)
+one-keeps v p q t lt I own =
+    subst (λ (w : View). Core (stepped p q (withMark p t (v .truth)) w)) (same-work v p) (own-keeps v p q (work v p) t lt I own)
 
 -- the true numbers stay
 same-mark : (t : Truth) (p : ℕ) → withMark p (getD (t .marks) p noMark) t ≡ t
@@ -82,7 +86,7 @@ order x s a b c d = omega arith
 
 module _ (v : View) (p : ℕ) (lt : p < v .P) (soon : Soon v) (I : Core v) (lag : Lag (v .N) (v .truth .C) (v .truth .Q)) (i : ℕ) (ilt : i < v .N)
     (working : T (saysOf (at v p) .busy)) where
-  mine : PInv (v .S) (v .N) p (at v p) (work v p) (mark v p) (v .W) (v .truth .lo) (v .truth .C) (v .truth .Q) (v .pieces)
+  mine : Own v p (at v p) (work v p) (mark v p)
   mine = I .prod p lt
 
   abbrev now : Commit
@@ -163,7 +167,7 @@ module _ (v : View) (p : ℕ) (lt : p < v .P) (soon : Soon v) (I : Core v) (lag 
       pub set-up : (j : ℕ) → getD (v .truth .Q) j 0 ≤ getD Q′ j 0
       set-up = raised (v .truth .Q) i (mark v p .v) (omega (arith, seen, Z .s-lt))
 
-      framed : (o : ℕ) (q : Producer) → PInv (v .S) (v .N) o q (work v o) (mark v o) (v .W) (v .truth .lo) (v .truth .C) (v .truth .Q) (v .pieces) →
+      framed : (o : ℕ) (q : Producer) → Own v o q (work v o) (mark v o) →
           PInv (v .S) (v .N) o q (work v o) (mark v o) (v .W) (v .truth .lo) (v .truth .C) Q′ (v .pieces)
       framed o q h =
           frame (v .S) (v .N) o q (work v o) (mark v o) (v .W) (v .truth .lo) (v .W) (v .truth .lo) (v .truth .C) (v .truth .Q) (v .truth .C) Q′ (v .pieces) (v .pieces)
@@ -178,15 +182,7 @@ module _ (v : View) (p : ℕ) (lt : p < v .P) (soon : Soon v) (I : Core v) (lag 
       set-keeps ph u a b c =
           record {
             shape = I .shape;
-            lens = record {
-              producer = rw length-set (I .lens .producer);
-              works = I .lens .works;
-              marks = I .lens .marks;
-              commit = I .lens .commit;
-              seq = rw length-set (I .lens .seq);
-              C = I .lens .C;
-              Q = rw length-set (I .lens .Q);
-            };
+            lens = set-record (set-seq (I .lens) i (at v p .v) (mark v p .v)) p (moved ph (at v p .v) (at v p .s) (at v p));
             rem = record {
               write = I .rem .write;
               read = I .rem .read;

@@ -32,11 +32,13 @@ pub mod BytesWrites
 pub mod BytesAdds
 pub mod Places
 pub mod Ground
+pub mod GroundRows
 pub mod GroundCalls
 pub mod Contents
 pub mod Reading
 pub mod BookLists
 pub mod Book
+pub mod BookFrame
 pub mod BookSteps
 pub mod BookReach
 pub mod BookNotes

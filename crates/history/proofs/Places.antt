@@ -21,7 +21,7 @@ use Rattle.history.proofs.Bytes.{headRest}
 use Rattle.history.proofs.Coords.{partIn, offIn, Spot, spot, start-is, off-is, past, slot-fits, fit-true}
 use Rattle.history.proofs.Effects.{used-effect, open-effect}
 use Rattle.history.proofs.Geometry.{s-pos, n-pos, byte-wrap, byte-at, byte-below, header-short}
-use Rattle.history.proofs.Invariant.{says, saysOf, Event, fitIn, Looked, PInv, Core}
+use Rattle.history.proofs.Invariant.{says, saysOf, Event, fitIn, Looked, Own, Core}
 use Rattle.history.proofs.View.{View, at, work, mark, piece}
 
 -- a write of nothing
@@ -30,7 +30,7 @@ unfolding put
 put-nothing l a n vs z e = rw (z, e) (take-append-drop a l)
 
 module _ (v : View) (I : Core v) (mem desks : List ℕ) (long : length mem ≡ v .S * v .N) (p : ℕ) (lt : p < v .P) (lost : ℕ) where
-  mine : PInv (v .S) (v .N) p (at v p) (work v p) (mark v p) (v .W) (v .truth .lo) (v .truth .C) (v .truth .Q) (v .pieces)
+  mine : Own v p (at v p) (work v p) (mark v p)
   mine = I .prod p lt
 
   -- the byte at which part k starts, from its position's remainder

@@ -75,16 +75,8 @@ slide-keeps : (v : View) (I : Core v) → v .S ≤ sumBy (did (v .truth .lo)) (v
 slide-keeps v I all-S =
     record {
       shape = I .shape;
-      lens = record {
-        producer = I .lens .producer;
-        works = I .lens .works;
-        marks = I .lens .marks;
-        commit = I .lens .commit;
-        seq = I .lens .seq;
-        C = I .lens .C;
-        Q = I .lens .Q;
-      };
-      rem = record { write = I .rem .write; read = I .rem .read; commit = I .rem .commit; seq = I .rem .seq };
+      lens = I .lens;
+      rem = I .rem;
       span = record { first = omega (arith, I .span .first); low = past; high = omega (arith, I .span .high); past-head = I .span .past-head };
       chain = I .chain;
       win = λ k lo hi. win k lo hi (decLt k (v .truth .lo + v .N));
@@ -134,15 +126,7 @@ read-to : (v : View) (b : Bool) (read rk : ℕ) → read ≡ rk * v .S % word �
 read-to v b read rk e I =
     record {
       shape = I .shape;
-      lens = record {
-        producer = I .lens .producer;
-        works = I .lens .works;
-        marks = I .lens .marks;
-        commit = I .lens .commit;
-        seq = I .lens .seq;
-        C = I .lens .C;
-        Q = I .lens .Q;
-      };
+      lens = I .lens;
       rem = record { write = I .rem .write; read = e; commit = I .rem .commit; seq = I .rem .seq };
       span = I .span;
       chain = I .chain;

@@ -5,7 +5,7 @@ use mathlib.Core.Bool.{true, false, true≢false}
 use mathlib.Core.List.{List, [], _∷_, _++_}
 use native.Mathlib.Nat.{div-add-mod', mod-lt, le-refl}
 use native.Mathlib.Omega.{arith}
-use lib.ListN.{length, getD, length-set, length-append}
+use lib.ListN.{length, getD, length-append}
 use lib.Seq.{getD-append-seam}
 use Rattle.counts.specs.Place.{Fit, entering, inside, closing}
 use Rattle.counts.specs.PlaceLaws.{FitIs}
@@ -16,7 +16,7 @@ use Rattle.history.specs.Lists.{sumBy}
 use Rattle.history.specs.Log.{Piece, Work, noPiece, padPiece, headPiece, slotPiece, pieces, placing, sizes}
 use Rattle.history.proofs.Chain.{Shape, Chain, did, did-open, chain-append}
 use Rattle.history.proofs.Coords.{partIn, offIn, skip, isEntering}
-use Rattle.history.proofs.Frame.{keeps-append, frame, each-three}
+use Rattle.history.proofs.Frame.{keeps-append, frame, each-three, set-record, set-work, set-mark}
 use Rattle.history.proofs.Geometry.{s-pos, part-low}
 use Rattle.history.proofs.Invariant.{PInv, Core}
 use Rattle.history.proofs.Sums.{sum-append, each-append, at-one, at-two}
@@ -41,15 +41,7 @@ module _ (v : View) (p : ℕ) (lt : p < v .P) (I : Core v) (ps : List Piece) (wr
   reserve-keeps =
       record {
         shape = I .shape;
-        lens = record {
-          producer = rw length-set (I .lens .producer);
-          works = rw length-set (I .lens .works);
-          marks = rw length-set (I .lens .marks);
-          commit = I .lens .commit;
-          seq = I .lens .seq;
-          C = I .lens .C;
-          Q = I .lens .Q;
-        };
+        lens = set-record (set-work (set-mark (I .lens) p t) p k) p q;
         rem = record { write = write-is; read = I .rem .read; commit = I .rem .commit; seq = I .rem .seq };
         span = record { first = I .span .first; low = omega (arith, I .span .low, up); high = high; past-head = past-head };
         chain = chain-append (v .S) (v .start) (v .pieces) (v .W) ps W′ (I .chain) chained;

@@ -10,9 +10,9 @@ use Rattle.steps.specs.Step.{Row, idle, reading, judging, swapping, closing as 
 use Rattle.ring.specs.declared.state.Ring.{Ring}
 use Rattle.ring.specs.Calls.{stepped as afterStep}
 use Rattle.ring.specs.State.{sharedAt, storedOf}
-use Rattle.history.specs.Log.{Log, workAt, eventAt, bytesOf, pieces, noteJudge}
+use Rattle.history.specs.Log.{Log, workAt, eventAt, bytesOf, noteJudge}
 use Rattle.history.specs.History.{noteRow}
-use Rattle.history.proofs.Invariant.{says, Event, PInv, Core, KeepOf, Soon}
+use Rattle.history.proofs.Invariant.{says, Event, Own, Core, KeepOf, Soon}
 use Rattle.history.proofs.Move.{calm}
 use Rattle.history.proofs.View.{Truth, View, viewOf, at, work, mark}
 use Rattle.history.proofs.Fitting.{fits-phase}
@@ -29,7 +29,7 @@ module _ (r : Ring) (l : Log) (t : Truth) (p : ℕ) (lt : p < r .producers) (fit
   abbrev q : Producer
   q = at w p
 
-  mine : PInv (w .S) (w .N) p q (work w p) (mark w p) (w .W) (w .truth .lo) (w .truth .C) (w .truth .Q) (w .pieces)
+  mine : Own w p q (work w p) (mark w p)
   mine = I .prod p lt
 
   row-good : (x : Row) → rowOf (q .phase) ≡ x → (Event q → bytesOf (eventAt l (workAt l p .event)) ≡ mark w p .bytes) →

@@ -1,6 +1,6 @@
 -- The rows of a producer that write no count: read, judge, close, open, write and end.
 use Prim.Native.Nat.{ℕ, _+_, _*_, _%_, _≤_, _<_}
-use mathlib.Core.Path.{_≡_, refl, sym, ap, subst, subst₂, _∙_, ap₂}
+use mathlib.Core.Path.{_≡_, refl, sym, ap, ap₂, subst, subst₂, _∙_}
 use mathlib.Core.Bool.{Bool, true, false, cond, _&&_, false≢true}
 use mathlib.Core.List.{List}
 use native.Mathlib.Decide.{decLt, ℕ-discrete}
@@ -27,7 +27,7 @@ use Rattle.history.specs.Log.{Log, done, pieces, noteOpen}
 use Rattle.history.specs.Premise.{half}
 use Rattle.history.proofs.Coords.{part-near, partIn, isEntering, Spot, spot}
 use Rattle.history.proofs.Geometry.{s-pos, small, two-parts, lt-of-mul}
-use Rattle.history.proofs.Invariant.{says, saysOf, Event, fitIn, Looked, Sized, PInv, Core, KeepOf, Soon}
+use Rattle.history.proofs.Invariant.{says, saysOf, Event, fitIn, Looked, Sized, Own, Core, KeepOf, Soon}
 use Rattle.history.proofs.Jobs.{off-keeps}
 use Rattle.history.proofs.Move.{calm}
 use Rattle.history.proofs.Simple.{read-keeps, read-flush-keeps, read-end-keeps, judge-keeps, write-keeps, open-keeps}
@@ -48,7 +48,7 @@ module _ (r : Ring) (l : Log) (t : Truth) (p : ℕ) (lt : p < r .producers) (fit
   abbrev q : Producer
   q = at w p
 
-  mine : PInv (w .S) (w .N) p q (work w p) (mark w p) (w .W) (w .truth .lo) (w .truth .C) (w .truth .Q) (w .pieces)
+  mine : Own w p q (work w p) (mark w p)
   mine = I .prod p lt
 
   -- ---- read

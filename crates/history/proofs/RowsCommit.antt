@@ -32,7 +32,7 @@ use Rattle.history.proofs.Coords.{partIn, slot-part, part-is, left-is}
 use Rattle.history.proofs.Add.{add-keeps}
 use Rattle.history.proofs.Frame.{Mine, my-pad, my-head, my-slot}
 use Rattle.history.proofs.Geometry.{s-pos, n-pos}
-use Rattle.history.proofs.Invariant.{says, saysOf, Event, whoseOf, jobOf, Looked, Sized, PadHeld, HeadHeld, SlotHeld, Raising, Setting, PInv, Core, KeepOf, Soon, Lag}
+use Rattle.history.proofs.Invariant.{says, saysOf, Event, whoseOf, jobOf, Looked, Sized, PadHeld, HeadHeld, SlotHeld, Raising, Setting, Own, Core, KeepOf, Soon, Lag}
 use Rattle.history.proofs.Jobs.{off-keeps, look-keeps, see-keeps, see-off, set-up, set-keeps}
 use Rattle.history.proofs.Move.{calm}
 use Rattle.history.proofs.View.{Truth, View, viewOf, at, work, mark, piece, withQ, withC, stepped, withSeq, withCommit, withPieces}
@@ -87,7 +87,7 @@ module _ (r : Ring) (l : Log) (t : Truth) (p : ℕ) (lt : p < r .producers) (fit
   abbrev q : Producer
   q = at w p
 
-  mine : PInv (w .S) (w .N) p q (work w p) (mark w p) (w .W) (w .truth .lo) (w .truth .C) (w .truth .Q) (w .pieces)
+  mine : Own w p q (work w p) (mark w p)
   mine = I .prod p lt
 
   lag : Lag (w .N) (w .truth .C) (w .truth .Q)

@@ -29,7 +29,7 @@ use Rattle.history.specs.Log.{Fate, Log, workAt, eventAt, bytesOf, lost 
 use Rattle.history.specs.History.{noteSwap}
 use Rattle.history.proofs.Coords.{partIn, skip, isEntering, isClosing, Spot, spot, next-is, off-is}
 use Rattle.history.proofs.Geometry.{s-pos}
-use Rattle.history.proofs.Invariant.{says, Event, Looked, Sized, PInv, Core, KeepOf, Soon}
+use Rattle.history.proofs.Invariant.{says, Event, Looked, Sized, Own, Core, KeepOf, Soon}
 use Rattle.history.proofs.Jobs.{off-keeps}
 use Rattle.history.proofs.Move.{calm}
 use Rattle.history.proofs.Reserve.{pieces-size}
@@ -51,7 +51,7 @@ module _ (r : Ring) (l : Log) (t : Truth) (p : ℕ) (lt : p < r .producers) (fit
   abbrev q : Producer
   q = at w p
 
-  mine : PInv (w .S) (w .N) p q (work w p) (mark w p) (w .W) (w .truth .lo) (w .truth .C) (w .truth .Q) (w .pieces)
+  mine : Own w p q (work w p) (mark w p)
   mine = I .prod p lt
 
   -- ---- swap

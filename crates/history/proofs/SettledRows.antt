@@ -24,7 +24,7 @@ use Rattle.history.specs.History.{noteSwap, noteRow}
 use Rattle.history.proofs.Add.{open-low, open-high}
 use Rattle.history.proofs.Chain.{chain-fine}
 use Rattle.history.proofs.Geometry.{s-pos}
-use Rattle.history.proofs.Invariant.{says, Event, PInv, Core}
+use Rattle.history.proofs.Invariant.{says, Event, Own, Core}
 use Rattle.history.proofs.Memory.{Stands, write-length, write-keeps}
 use Rattle.history.proofs.Places.{close-writes, open-writes, write-writes, end-writes}
 use Rattle.history.proofs.Reserve.{Open, pieces-open}
@@ -45,7 +45,7 @@ module _ (r : Ring) (l : Log) (t : Truth) (p : ℕ) (lt : p < r .producers) (fit
   abbrev q : Producer
   q = at w p
 
-  mine : PInv (w .S) (w .N) p q (work w p) (mark w p) (w .W) (w .truth .lo) (w .truth .C) (w .truth .Q) (w .pieces)
+  mine : Own w p q (work w p) (mark w p)
   mine = I .prod p lt
 
   -- an open piece is not the part's

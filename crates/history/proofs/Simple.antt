@@ -17,9 +17,9 @@ use Rattle.steps.specs.Step.{heading, slot, reading, judging, opening, writing,
 use Rattle.history.specs.Log.{Piece, Work, noPiece, opened}
 use Rattle.history.proofs.Chain.{did, chain-noted}
 use Rattle.history.proofs.Coords.{partIn, isEntering}
-use Rattle.history.proofs.Frame.{keeps-not-mine, frame, each-three, each-one}
-use Rattle.history.proofs.Invariant.{says, Event, fitIn, May, Sized, HeadHeld, SlotHeld, PInv, Core}
-use Rattle.history.proofs.Jobs.{one-keeps}
+use Rattle.history.proofs.Frame.{keeps-not-mine, frame, each-one, set-record, bare-keeps, idle-keeps}
+use Rattle.history.proofs.Invariant.{says, Event, fitIn, May, Sized, Looked, HeadHeld, SlotHeld, PInv, Own, Core}
+use Rattle.history.proofs.Jobs.{own-keeps, one-keeps}
 use Rattle.history.proofs.Move.{calm, move}
 use Rattle.history.proofs.Sums.{each-set, sum-same}
 use Rattle.history.proofs.View.{Mark, View, at, work, mark, piece, withMark, withWork, withPieces, stepped}
@@ -37,46 +37,12 @@ pub start-keeps : (v : View) (p z event : ℕ) (bytes : List ℕ) → p < v .P �
     Core (stepped p (starts z) (withMark p (unseen bytes) (v .truth)) (withWork p (startAt (v .W) event) v))
 unfolding says rowOf
 start-keeps v p z event bytes lt h I =
-    record {
-      shape = I .shape;
-      lens = record {
-        producer = rw length-set (I .lens .producer);
-        works = rw length-set (I .lens .works);
-        marks = rw length-set (I .lens .marks);
-        commit = I .lens .commit;
-        seq = I .lens .seq;
-        C = I .lens .C;
-        Q = I .lens .Q;
-      };
-      rem = record { write = I .rem .write; read = I .rem .read; commit = I .rem .commit; seq = I .rem .seq };
-      span = I .span;
-      chain = I .chain;
-      win = I .win;
-      seqs = I .seqs;
-      prod = each-three (v .P) (v .producer) (v .works) (v .truth .marks) p
-          (λ o q k t. PInv (v .S) (v .N) o q k t (v .W) (v .truth .lo) (v .truth .C) (v .truth .Q) (v .pieces))
-          (omega (arith, I .lens .producer, I .shape .producers-high)) (starts z) (startAt (v .W) event) (unseen bytes)
-          (omega (arith, I .lens .works, I .shape .producers-high)) (omega (arith, I .lens .marks, I .shape .producers-high))
-          (record {
-            sized = λ u ev. record { fits = h ev .0; long = h ev .1 };
-            begun = λ u. le-refl _;
-            looks = λ u. absurd u;
-            roomy = λ u. absurd u;
-            shuts = λ u. absurd u;
-            pads = λ u. absurd u;
-            heads = λ u. absurd u;
-            slots = λ u. absurd u;
-            raises = λ u. absurd u;
-            sets = λ u. absurd u;
-            none = λ u. refl;
-            all = λ u. absurd u;
-          })
-          (λ o k ne. I .prod o k);
-      old = I .old;
-    }
+    own-keeps v p (starts z) (startAt (v .W) event) (unseen bytes) lt I
+    (bare-keeps (v .S) (v .N) p (starts z) (startAt (v .W) event) (unseen bytes) (v .W) (v .truth .lo) (v .truth .C) (v .truth .Q) (v .pieces) true false false true refl
+    (λ u. ((λ ev. record { fits = h ev .0; long = h ev .1 }), le-refl _)) (λ u. absurd u) (λ u. absurd u) (λ u. refl))
 
 module _ (v : View) (p : ℕ) (lt : p < v .P) (I : Core v) where
-  mine : PInv (v .S) (v .N) p (at v p) (work v p) (mark v p) (v .W) (v .truth .lo) (v .truth .C) (v .truth .Q) (v .pieces)
+  mine : Own v p (at v p) (work v p) (mark v p)
   mine = I .prod p lt
 
   -- ---- read
@@ -100,65 +66,31 @@ module _ (v : View) (p : ℕ) (lt : p < v .P) (I : Core v) where
     unfolding says
     sized = mine .sized (rw e tt)
 
+    -- it has looked at the write count
+    saw : (q : Producer) → q .w ≡ position (v .write) → Looked q (work v p) looking (v .W)
+    saw q w-is = record { w-is = ap (λ x. x .0) w-is ∙ I .rem .write; after = begun; before = le-refl _ }
+
     -- an event goes on to judge
     pub read-keeps : Core (stepped p (reads 2) (withMark p looking (v .truth)) v)
     unfolding says rowOf
     read-keeps =
         one-keeps v p (reads 2) looking lt I
-        (record {
-          sized = λ u ev. let h = sized ev in record { fits = h .fits; long = h .long };
-          begun = λ u. begun;
-          looks = λ u. record { w-is = I .rem .write; after = begun; before = le-refl _ };
-          roomy = λ u. absurd u;
-          shuts = λ u. absurd u;
-          pads = λ u. absurd u;
-          heads = λ u. absurd u;
-          slots = λ u. absurd u;
-          raises = λ u. absurd u;
-          sets = λ u. absurd u;
-          none = λ u. none;
-          all = λ u. absurd u;
-        })
+        (bare-keeps (v .S) (v .N) p (reads 2) (work v p) looking (v .W) (v .truth .lo) (v .truth .C) (v .truth .Q) (v .pieces) true true false true refl (λ u. ((λ ev. let h = sized ev in record { fits = h .fits; long = h .long }), begun))
+        (λ u. saw (reads 2) refl) (λ u. absurd u) (λ u. none))
 
     -- a flush to swap
     pub read-flush-keeps : at v p .z ≡ 0 → Core (stepped p (reads 3) (withMark p looking (v .truth)) v)
     unfolding says rowOf
     read-flush-keeps fl =
         one-keeps v p (reads 3) looking lt I
-        (record {
-          sized = λ u ev. absurd (ev fl);
-          begun = λ u. begun;
-          looks = λ u. record { w-is = I .rem .write; after = begun; before = le-refl _ };
-          roomy = λ u ev. absurd (ev fl);
-          shuts = λ u. absurd u;
-          pads = λ u. absurd u;
-          heads = λ u. absurd u;
-          slots = λ u. absurd u;
-          raises = λ u. absurd u;
-          sets = λ u. absurd u;
-          none = λ u. none;
-          all = λ u. absurd u;
-        })
+        (bare-keeps (v .S) (v .N) p (reads 3) (work v p) looking (v .W) (v .truth .lo) (v .truth .C) (v .truth .Q) (v .pieces) true true true true refl (λ u. ((λ ev. absurd (ev fl)), begun)) (λ u. saw (reads 3) refl) (λ u ev. absurd (ev fl)) (λ u. none))
 
     -- .. or, where there is nothing to close, to its end
     pub read-end-keeps : Core (stepped p (reads 0) (withMark p looking (v .truth)) v)
     unfolding says rowOf
     read-end-keeps =
         one-keeps v p (reads 0) looking lt I
-        (record {
-          sized = λ u. absurd u;
-          begun = λ u. absurd u;
-          looks = λ u. absurd u;
-          roomy = λ u. absurd u;
-          shuts = λ u. absurd u;
-          pads = λ u. absurd u;
-          heads = λ u. absurd u;
-          slots = λ u. absurd u;
-          raises = λ u. absurd u;
-          sets = λ u. absurd u;
-          none = λ u. absurd u;
-          all = λ u. absurd u;
-        })
+        (idle-keeps (v .S) (v .N) p (reads 0) (work v p) looking (v .W) (v .truth .lo) (v .truth .C) (v .truth .Q) (v .pieces) refl)
 
   -- ---- judge: for whichever test, what it says when it finds room
 
@@ -168,25 +100,16 @@ module _ (v : View) (p : ℕ) (lt : p < v .P) (I : Core v) where
   unfolding says rowOf
   judge-keeps e b room =
       one-keeps v p (toPhase 3 (withFull b (at v p))) (mark v p) lt I
-      (record {
-        sized = λ u ev. let h = mine .sized (rw e tt) ev in record { fits = h .fits; long = h .long };
-        begun = λ u. mine .begun (rw e tt);
-        looks = λ u. let h = mine .looks (rw e tt) in record { w-is = h .w-is; after = h .after; before = h .before };
-        roomy = λ u ev. room;
-        shuts = λ u. absurd u;
-        pads = λ u. absurd u;
-        heads = λ u. absurd u;
-        slots = λ u. absurd u;
-        raises = λ u. absurd u;
-        sets = λ u. absurd u;
-        none = λ u. mine .none (rw e tt);
-        all = λ u. absurd u;
-      })
+      (bare-keeps (v .S) (v .N) p (toPhase 3 (withFull b (at v p))) (work v p) (mark v p) (v .W) (v .truth .lo) (v .truth .C) (v .truth .Q) (v .pieces) true true true true refl
+      (λ u. ((λ ev. let h = mine .sized (rw e tt) ev in record { fits = h .fits; long = h .long }), mine .begun (rw e tt)))
+      (λ u. let h = mine .looks (rw e tt) in record { w-is = h .w-is; after = h .after; before = h .before })
+      (λ u ev. room)
+      (λ u. mine .none (rw e tt)))
 
   -- ---- write: d bytes now stand
 
   wrote : rowOf (at v p .phase) ≡ writing → (d : ℕ) → d ≤ at v p .z →
-      PInv (v .S) (v .N) p (withDone d (at v p)) (work v p) (mark v p) (v .W) (v .truth .lo) (v .truth .C) (v .truth .Q) (v .pieces)
+      Own v p (withDone d (at v p)) (work v p) (mark v p)
   unfolding says
   wrote e d le =
       record {
@@ -267,16 +190,8 @@ module _ (v : View) (p : ℕ) (lt : p < v .P) (I : Core v) where
     open-keeps =
         record {
           shape = I .shape;
-          lens = record {
-            producer = rw length-set (I .lens .producer);
-            works = I .lens .works;
-            marks = I .lens .marks;
-            commit = I .lens .commit;
-            seq = I .lens .seq;
-            C = I .lens .C;
-            Q = I .lens .Q;
-          };
-          rem = record { write = I .rem .write; read = I .rem .read; commit = I .rem .commit; seq = I .rem .seq };
+          lens = set-record (I .lens) p (toPhase 10 (at v p));
+          rem = I .rem;
           span = I .span;
           chain = chain-noted (v .S) (v .start) (v .pieces) (v .W) j n (piece v j .committed) (I .chain);
           win = λ k lo hi. I .win k lo hi ∙ ap (λ y. v .S * (k / v .N) + y) (sym (sum-same (did k) (v .pieces) j (opened n (piece v j)) noPiece (H .inlog) refl));

@@ -14,7 +14,7 @@ use Rattle.counts.specs.ShapeLaws.{Shaped}
 use Rattle.counts.specs.Tests.{and-left, and-right}
 use Rattle.layout.specs.Reading.{Run}
 use Rattle.layout.specs.Record.{recordOf}
-use Rattle.steps.specs.Step.{Whose, padding, heading, slot}
+use Rattle.steps.specs.Step.{slot}
 use Rattle.ring.specs.declared.state.Ring.{Ring}
 use Rattle.history.specs.Lists.{only, kept, many}
 use Rattle.history.specs.Log.{isopen, written, isWritten, isSlot, Piece, Log, noPiece, eventAt, bytesOf}
@@ -23,7 +23,7 @@ use Rattle.history.specs.Promise.{isWrittenSlot, writtenSlots, undeliver
 use Rattle.history.proofs.Book.{Slot}
 use Rattle.history.proofs.BookGood.{Whole}
 use Rattle.history.proofs.Bytes.{SlotStands}
-use Rattle.history.proofs.Chain.{Shape, Fine, chain-fine, chain-low}
+use Rattle.history.proofs.Chain.{Shape, is-slot, Fine, chain-fine, chain-low}
 use Rattle.history.proofs.Contents.{inPart}
 use Rattle.history.proofs.Geometry.{byte-at, n-pos, lt-of-mul}
 use Rattle.history.proofs.Given.{Given}
@@ -34,11 +34,6 @@ use Rattle.history.proofs.Out.{Out}
 use Rattle.history.proofs.Settled.{Chosen, only-at, map-same}
 use Rattle.history.proofs.Standing.{only-only, only-same, from, exactly, inTurn, turns}
 use Rattle.history.proofs.View.{viewOf}
-
-is-slot : (y : Whose) → isSlot y ≡ true → y ≡ slot
-is-slot padding e = absurd (false≢true e)
-is-slot heading e = absurd (false≢true e)
-is-slot slot e = refl
 
 flatten-map : {A B : Type 0} (f : A → B) (l : List (List A)) → map f (flatten l) ≡ flatten (map (map f) l)
 unfolding flatten

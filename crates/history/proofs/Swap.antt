@@ -19,7 +19,7 @@ use Rattle.history.specs.Log.{Piece, Work, noPiece, slotPiece, pieces, p
 use Rattle.history.proofs.Chain.{Chain, Shape}
 use Rattle.history.proofs.Coords.{partIn, offIn, skip, isEntering, slot-pos, slot-fits, slot-behind}
 use Rattle.history.proofs.Geometry.{mod-close, header-pos, s-pos, at-mod, lt-of-mul}
-use Rattle.history.proofs.Invariant.{Says, says, Event, Looked, Sized, PInv, Core, Soon}
+use Rattle.history.proofs.Invariant.{Says, says, Event, Looked, Sized, PInv, Own, Core, Soon}
 use Rattle.history.proofs.Move.{moved}
 use Rattle.history.proofs.Reserve.{Open, reserve-keeps, pieces-chain, pieces-open, slot-there, head-there, pad-there}
 use Rattle.history.proofs.View.{Mark, View, at, work, mark, withMark, withWork, withPieces, withWrite, stepped}
@@ -72,7 +72,7 @@ part-in S N lo W z closing s h hi room = room refl
 -- ---- the row
 
 module _ (v : View) (p : ℕ) (lt : p < v .P) (e : rowOf (at v p .phase) ≡ swapping) (soon : Soon v) (I : Core v) (same : v .write ≡ at v p .w .0) where
-  mine : PInv (v .S) (v .N) p (at v p) (work v p) (mark v p) (v .W) (v .truth .lo) (v .truth .C) (v .truth .Q) (v .pieces)
+  mine : Own v p (at v p) (work v p) (mark v p)
   mine = I .prod p lt
 
   L : Looked (at v p) (work v p) (mark v p) (v .W)

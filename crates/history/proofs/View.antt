@@ -80,9 +80,12 @@ abbrev pub stepped : (p : ℕ) → Producer → Truth → View → View
 stepped p q t v =
     record { S = v .S; N = v .N; P = v .P; write = v .write; read = v .read; commit = v .commit; seq = v .seq; producer = set (v .producer) p q; hold = v .hold; start = v .start; W = v .W; rk = v .rk; pieces = v .pieces; works = v .works; truth = t }
 
+abbrev pub withWorks : List Work → View → View
+withWorks ks v =
+    record { S = v .S; N = v .N; P = v .P; write = v .write; read = v .read; commit = v .commit; seq = v .seq; producer = v .producer; hold = v .hold; start = v .start; W = v .W; rk = v .rk; pieces = v .pieces; works = ks; truth = v .truth }
+
 abbrev pub withWork : (p : ℕ) → Work → View → View
-withWork p k v =
-    record { S = v .S; N = v .N; P = v .P; write = v .write; read = v .read; commit = v .commit; seq = v .seq; producer = v .producer; hold = v .hold; start = v .start; W = v .W; rk = v .rk; pieces = v .pieces; works = set (v .works) p k; truth = v .truth }
+withWork p k v = withWorks (set (v .works) p k) v
 
 abbrev pub withPieces : List Piece → View → View
 withPieces ps v =

@@ -9,6 +9,13 @@ mod text;
 
 use program::Program;
 
+// Prints the first bytes of a buffer.
+fn print(out: &[u8], used: usize)
+    requires { ⌜ used ≤ length (now out) ⌝ }
+{
+    io::write_all(1, &out[..used]);
+}
+
 // A part of the input: does it, and prints what it prints, which out holds.
 fn part(
     program: Program,
@@ -20,8 +27,7 @@ fn part(
     requires { ⌜ 66 * length (now text) ≤ length (now out) ⌝ }
 {
     let next = program.feed_all(text, memory, desks, out);
-    let used = next.used;
-    io::write_all(1, &out[..used]);
+    print(out, next.used);
     next
 }
 
@@ -30,7 +36,7 @@ fn end(program: Program, memory: &mut [u8], desks: &mut [u8], out: &mut [u8])
     requires { ⌜ 66 ≤ length (now out) ⌝ }
 {
     let used = program.finish(memory, desks, out);
-    io::write_all(1, &out[..used]);
+    print(out, used);
 }
 
 // Reads the input to its end, in parts. A proved loop has to end, and nothing says that the input does: so the loop counts its turns
