@@ -1,5 +1,5 @@
-/* The calls of the crate layout. Its functions have the numbers that the
-   program compare_layout knows them by. */
+/* The calls of the crates layout and parts. Their functions have the numbers
+   that the program compare_layout knows them by. */
 
 #include "bridge.h"
 

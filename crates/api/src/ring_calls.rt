@@ -3,7 +3,7 @@ ghost use mathlib.Core.Path.{_≡_};
 ghost use lib.ListN.{length};
 ghost use Rattle.counts.specs.Position.{position};
 ghost use Rattle.ring.specs.Calls.{freshOf, offerOf, offerBytes, flushOf, stepOf, stepBytes, getOf, putOf, spanOf, readyCountOf};
-ghost use Rattle.ring.specs.Run.{runOf, runBytes};
+ghost use Rattle.runs.specs.Run.{runOf, runBytes};
 use counts::position::Position;
 use ring::reader::Span;
 use ring::state::Answer;
@@ -55,7 +55,7 @@ pub extern "C" fn waxbramble_run(r: Ring, p: u32, ring: &mut [u8], desks: &[u8])
     ensures { λ a. ⌜ a ≡ runOf r p (now (ring .entry)) (now (desks .entry)) ⌝ }
     ensures { λ _. ⌜ now (ring .exit) ≡ runBytes r p (now (ring .entry)) (now (desks .entry)) ⌝ }
 {
-    r.run(p, ring, desks)
+    runs::run::run(r, p, ring, desks)
 }
 
 // Holds the sub-buffer at the read count.

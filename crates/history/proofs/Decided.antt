@@ -6,8 +6,8 @@ use mathlib.Core.List.{List, [], _∷_}
 use lib.Dec.{eqb}
 use lib.ListN.{getD}
 use borrow.Author.Tests.{eqb-true, eq-eqb}
-use Rattle.layout.specs.Part.{Reading, reads, refuses, decodeOf, runOf}
-use Rattle.layout.specs.Reading.{Run, records, refused, readOf}
+use Rattle.parts.specs.Part.{Reading, reads, refuses, decodeOf, runOf}
+use Rattle.parts.specs.Reading.{Run, records, refused, readOf}
 use Rattle.layout.specs.Record.{Rec}
 use Rattle.history.specs.Lists.{EachFrom}
 use Rattle.history.specs.Log.{isOpen, noRec}

@@ -11,9 +11,9 @@ use Rattle.counts.specs.Position.{partOf}
 use Rattle.counts.specs.Shape.{sizeOf, shapeOf}
 use Rattle.counts.specs.Tests.{and-left, and-right}
 use Rattle.counts.specs.Wrap.{word}
-use Rattle.layout.specs.Part.{reads}
+use Rattle.parts.specs.Part.{reads}
 use Rattle.layout.specs.Record.{Rec, recordOf, recordsOf}
-use Rattle.layout.specs.RoundTrip.{All, none, more, Fine, record-length}
+use Rattle.parts.specs.RoundTrip.{All, none, more, Fine, record-length}
 use Rattle.layout.specs.Sizes.{header, recordSize, lastProducer}
 use Rattle.steps.specs.Step.{slot}
 use Rattle.ring.specs.declared.reader.Span.{Span}

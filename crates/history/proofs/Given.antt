@@ -8,8 +8,8 @@ use lib.ListN.{length, getD, set, List·getD-append}
 use lib.Seq.{getD-set-same, getD-set-other}
 use Rattle.counts.specs.Tests.{and-left, and-right}
 use Rattle.counts.specs.Wrap.{word}
-use Rattle.layout.specs.Part.{reads, decodeOf, runOf}
-use Rattle.layout.specs.Reading.{records, readOf}
+use Rattle.parts.specs.Part.{reads, decodeOf, runOf}
+use Rattle.parts.specs.Reading.{records, readOf}
 use Rattle.layout.specs.Sizes.{header}
 use Rattle.steps.specs.Step.{slot}
 use Rattle.history.specs.Lists.{only, many}

@@ -13,7 +13,7 @@ use lib.Seq.{getD-set-same, getD-set-other, length-take-le, getD-append-seam}
 use Rattle.counts.specs.Wrap.{word}
 use Rattle.layout.specs.Record.{Rec, recordOf, laidOn}
 use Rattle.layout.specs.RecordLaws.{laid-fits}
-use Rattle.layout.specs.RoundTrip.{record-length}
+use Rattle.parts.specs.RoundTrip.{record-length}
 use Rattle.layout.specs.Sizes.{header, head, recordSize, leastUsed}
 use Rattle.steps.specs.Bytes.{put, over, bytesBy}
 use Rattle.steps.specs.BytesFrame.{put-inside}

@@ -14,11 +14,11 @@ use Rattle.counts.specs.Wrap.{word}
 use Rattle.layout.specs.Bytes.{le2, le4}
 use Rattle.layout.specs.Header.{markOf, headerOf}
 use Rattle.layout.specs.HeaderLaws.{header-length}
-use Rattle.layout.specs.Part.{reads, decodeOf, runOf, refusalOf, laid, layOutOf, layOutBytes}
-use Rattle.layout.specs.PartLaws.{lay-run, bytes-done}
-use Rattle.layout.specs.Reading.{records, readOf}
+use Rattle.parts.specs.Part.{reads, decodeOf, runOf, refusalOf, laid, layOutOf, layOutBytes}
+use Rattle.parts.specs.PartLaws.{lay-run, bytes-done}
+use Rattle.parts.specs.Reading.{records, readOf}
 use Rattle.layout.specs.Record.{Rec, recordOf, recordsOf}
-use Rattle.layout.specs.RoundTrip.{All, read-back, laid-decodes, laid-reads}
+use Rattle.parts.specs.RoundTrip.{All, read-back, laid-decodes, laid-reads}
 use Rattle.layout.specs.Sizes.{header}
 use Rattle.history.specs.Lists.{only}
 use Rattle.history.specs.Log.{Piece, noPiece}

@@ -12,7 +12,7 @@ use borrow.Author.Tests.{le-leb, leb-true}
 use Rattle.counts.specs.Position.{byteOf}
 use Rattle.counts.specs.ShapeLaws.{Shaped}
 use Rattle.counts.specs.Tests.{and-left, and-right}
-use Rattle.layout.specs.Reading.{Run}
+use Rattle.parts.specs.Reading.{Run}
 use Rattle.layout.specs.Record.{recordOf}
 use Rattle.steps.specs.Step.{slot}
 use Rattle.ring.specs.declared.state.Ring.{Ring}

@@ -8,8 +8,8 @@ use Rattle.counts.specs.Shape.{sizeOf, partsOf, producersOf, shapeOf}
 use Rattle.counts.specs.Wrap.{add32, sub32}
 use Rattle.layout.specs.Bytes.{word2, word4}
 use Rattle.layout.specs.Header.{opened, usedSet, marked}
-use Rattle.layout.specs.Part.{decodeOf, runOf}
-use Rattle.layout.specs.Reading.{firstOf, reads, readOf}
+use Rattle.parts.specs.Part.{decodeOf, runOf}
+use Rattle.parts.specs.Reading.{firstOf, reads, readOf}
 use Rattle.layout.specs.Record.{recordOf, laidOn}
 use Rattle.layout.specs.Sizes.{header, head, version, recordSize, leastUsed, lastProducer}
 use Rattle.steps.specs.Bytes.{put as putBytes, over, copyInto, bytesBy}

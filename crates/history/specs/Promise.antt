@@ -7,8 +7,8 @@ use lib.Dec.{eqb, leb}
 use lib.ListN.{length, take, drop, getD}
 use Rattle.counts.specs.Position.{position, byteOf}
 use Rattle.counts.specs.Wrap.{word}
-use Rattle.layout.specs.Part.{reads, decodeOf, runOf}
-use Rattle.layout.specs.Reading.{Run, records, refused, readOf}
+use Rattle.parts.specs.Part.{reads, decodeOf, runOf}
+use Rattle.parts.specs.Reading.{Run, records, refused, readOf}
 use Rattle.layout.specs.Record.{Rec, recordOf}
 use Rattle.layout.specs.Sizes.{header}
 use Rattle.steps.specs.Producer.{flushing}

@@ -1,20 +1,20 @@
-// The functions of `layout`: enums cross as document 01's numbers, a returned part as a copy.
+// The functions of `layout` and `parts`: enums cross as document 01's numbers, a returned part as a copy.
 ghost use mathlib.Core.Path.{_≡_};
 ghost use lib.ListN.{length};
 ghost use Rattle.layout.specs.Bytes.{copied};
 ghost use Rattle.layout.specs.Header.{opened, usedSet};
-ghost use Rattle.layout.specs.Part.{decodeOf, layOutOf, layOutBytes, runOf};
+ghost use Rattle.parts.specs.Part.{decodeOf, layOutOf, layOutBytes, runOf};
 ghost use Rattle.layout.specs.Record.{laidOn};
-ghost use Rattle.layout.specs.Plain.{plain};
+ghost use Rattle.parts.specs.Plain.{plain};
 ghost use Rattle.probe.specs.Layout.{handed};
 use counts::position::Position;
-use layout::plain::DecodedPlain;
+use parts::plain::DecodedPlain;
 
 #[no_mangle]
 pub extern "C" fn layout_decode(part: &[u8]) -> DecodedPlain
     ensures { λ r. ⌜ r ≡ plain (decodeOf (now (part .entry))) ⌝ }
 {
-    layout::plain::decode_plain(part)
+    parts::plain::decode_plain(part)
 }
 
 // Copies the run to the front of out, where it fits; answers its length.
@@ -23,7 +23,7 @@ pub extern "C" fn layout_run(part: &[u8], out: &mut [u8]) -> usize
     ensures { λ r. ⌜ r ≡ length (runOf (now (part .entry))) ⌝ }
     ensures { λ _. ⌜ now (out .exit) ≡ handed (runOf (now (part .entry))) (now (out .entry)) ⌝ }
 {
-    let run = layout::part::run(part);
+    let run = parts::part::run(part);
     let n = run.len();
     if out.len() < n {
         return n;
@@ -37,7 +37,7 @@ pub extern "C" fn layout_lay_out(run: &[u8], position: u32, lost: u32, part: &mu
     ensures { λ r. ⌜ r ≡ layOutOf (now (run .entry)) position (length (now (part .entry))) ⌝ }
     ensures { λ _. ⌜ now (part .exit) ≡ layOutBytes (now (run .entry)) position lost (now (part .entry)) ⌝ }
 {
-    layout::plain::lay_out_plain(run, position, lost, part)
+    parts::plain::lay_out_plain(run, position, lost, part)
 }
 
 #[no_mangle]

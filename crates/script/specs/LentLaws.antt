@@ -18,7 +18,7 @@ use Rattle.ring.specs.declared.state.Answer.{Answer}
 use Rattle.ring.specs.declared.state.Ring.{Ring}
 use Rattle.ring.specs.Calls.{freshOf, offerOf, flushOf, stepped, stepOf, getOf, putOf}
 use Rattle.ring.specs.Refusals.{freshRefusal, offerRefusal, flushRefusal, stepRefusal, getRefusal, putRefusal}
-use Rattle.ring.specs.Run.{steps, most, world, runOf}
+use Rattle.runs.specs.Run.{steps, most, world, runOf}
 use Rattle.ring.specs.State.{at, withProducer, withOffered, withRead, withHolding}
 use Rattle.steps.specs.Producer.{starts}
 use Rattle.ring.specs.World.{World, step, after}

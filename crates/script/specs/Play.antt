@@ -8,7 +8,7 @@ use Rattle.counts.specs.Position.{position}
 use Rattle.ring.specs.declared.state.Answer.{Answer}
 use Rattle.ring.specs.declared.state.Ring.{Ring}
 use Rattle.ring.specs.Calls.{freshOf, offerOf, offerBytes, flushOf, stepOf, stepBytes, getOf, putOf}
-use Rattle.ring.specs.Run.{runOf, runBytes}
+use Rattle.runs.specs.Run.{runOf, runBytes}
 use Rattle.ring.specs.State.{zeros, says}
 use Rattle.lines.specs.declared.line.Line.{Line}
 use Rattle.lines.specs.declared.line.Line.the-variants.{New, Offer, Flush, Step, Run, Get, Put, Bad}

@@ -64,7 +64,7 @@ fn run(ring: Ring, p: u32, memory: &mut [u8], desks: &[u8]) -> Answer
 {
     let b = lent(ring.size, ring.parts, memory.len());
     let d = lent(ring.producers, ring.size, desks.len());
-    ring.run(p, &mut memory[..b], &desks[..d])
+    runs::run::run(ring, p, &mut memory[..b], &desks[..d])
 }
 
 // Makes the call of a line, a new's too. A bad line makes none.

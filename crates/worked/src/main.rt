@@ -1,7 +1,7 @@
 // The worked bytes of document 01 ("The replay program"): one record of kind 1 by producer 0 with two bytes of payload, laid out at
 // position 0 with no loss in a sub-buffer of 64 bytes. Prints the bytes up to the used size, and what the decoder answers of them.
 use counts::position::Position;
-use layout::part::Decoded;
+use parts::part::Decoded;
 
 // Prints the bytes of a slice in hexadecimal, each followed by a space, and a line end.
 fn print_bytes(s: &[u8]) {
@@ -20,7 +20,7 @@ fn print_word(word: &[u8], n: u64) {
 }
 
 fn print_decoded(part: &[u8]) {
-    let decoded = layout::part::decode(part);
+    let decoded = parts::part::decode(part);
     match decoded {
         Decoded::Part {
             position,
@@ -34,7 +34,7 @@ fn print_decoded(part: &[u8]) {
             print_word(b" records ", records as u64);
         }
         Decoded::Refused(r) => {
-            print_word(b"refused ", layout::refusal::number(r) as u64);
+            print_word(b"refused ", parts::refusal::number(r) as u64);
         }
     }
     io::write_all(1, b"\n");
@@ -44,8 +44,8 @@ fn main() {
     let mut desk = [0u8; 64];
     layout::record::lay_record(&mut desk, b"\x01\x01", 1, 0);
     let mut part = [255u8; 64];
-    layout::part::lay_out(&desk[0..6], Position(0), 0, &mut part);
+    parts::part::lay_out(&desk[0..6], Position(0), 0, &mut part);
     print_bytes(&part[0..22]);
     print_decoded(&part);
-    print_bytes(layout::part::run(&part));
+    print_bytes(parts::part::run(&part));
 }

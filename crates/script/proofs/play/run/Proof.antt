@@ -4,7 +4,7 @@ use Prim.Native.Nat.{ℕ, _*_}
 use mathlib.Core.Path.{sym, ap₂, _∙_}
 use lib.Seq.{length-take-le}
 use denote.Ref.{now}
-use Rattle.ring.specs.Run.{runOf, runBytes}
+use Rattle.runs.specs.Run.{runOf, runBytes}
 use Rattle.script.specs.Play.{answerOf, memoryOf}
 use Rattle.script.specs.PlayLaws.{front, behind}
 use borrow.Author.Needs.{needs}
