@@ -4,10 +4,6 @@ use lib.ListN.{length}
 use borrow.Author.Needs.{needs}
 use Rattle.worked.proofs.print_bytes.Statement.{statement}
 use Rattle.worked.proofs.print_bytes.Tie as tie
-use Rattle.worked.proofs.print_bytes.Reads as reads
-use Rattle.worked.proofs.print_bytes.Lts as lts
-use Rattle.io.proofs.print_hex.Reads as print-hex-reads
-use Rattle.io.proofs.write_all.Reads as write-all-reads
 
 abbrev Inv-loop : tie.InvT-loop
 Inv-loop s i₀ t3 t4 i = i ≤ length s

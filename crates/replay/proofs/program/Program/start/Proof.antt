@@ -1,7 +1,5 @@
 -- `replay::program::Program::start` meets its contract.
 use borrow.Author.Needs.{needs}
-use Rattle.script.proofs.play.Play.start.Reads as play-Play-start-reads
-use Rattle.lines.proofs.reading.Reading.start.Reads as reading-Reading-start-reads
 use Rattle.replay.proofs.program.Program.start.Statement.{statement}
 use Rattle.replay.proofs.program.Program.start.Tie as tie
 
