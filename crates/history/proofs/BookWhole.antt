@@ -187,7 +187,7 @@ begins S N start = record { lo = start / S; C = replicate 16 (start / N); Q = re
 
 module _ (S N P start : ℕ) (low : start < word) (F : Fresh S N P start) where
   abbrev ring : Ring
-  ring = begun S N P (position start) (commit (start / N))
+  ring = begun S N P (position start) (commit (start / N)) nobody
 
   abbrev v : View
   v = viewOf ring (started start) (begins S N start)

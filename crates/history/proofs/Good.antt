@@ -1,18 +1,19 @@
 -- The invariant of positions, of a ring and its log; and what a row that writes no shared word keeps of it.
 use Prim.Native.Nat.{ℕ}
-use mathlib.Core.Path.{_≡_, sym, ap₂, subst}
+use mathlib.Core.Path.{_≡_, sym, subst}
 use mathlib.Core.List.{List}
 use lib.ListN.{set}
 use lib.Seq.{set-getD}
 use Rattle.counts.specs.declared.commit.Commit.{Commit}
 use Rattle.counts.specs.Commit.{commit}
 use Rattle.steps.specs.declared.producer.Producer.{Producer}
+use Rattle.steps.specs.declared.step.Moved.{Moved}
 use Rattle.steps.specs.Step.{moved as still}
 use Rattle.ring.specs.declared.state.Ring.{Ring}
-use Rattle.ring.specs.State.{sharedAt, storedOf}
+use Rattle.ring.specs.State.{commitAt, seqAt, sharedAt, storedOf, rebuilt}
 use Rattle.history.specs.Log.{Log}
 use Rattle.history.proofs.Invariant.{Core, KeepOf}
-use Rattle.history.proofs.View.{Truth, View, viewOf, stepped}
+use Rattle.history.proofs.View.{Truth, viewOf, stepped}
 
 -- the invariant of a ring and its log: for some true numbers
 pub record Good (r : Ring) (l : Log) : Type 0 where
@@ -22,15 +23,25 @@ pub record Good (r : Ring) (l : Log) : Type 0 where
 
 -- ---- the ring after a row, as the invariant sees it
 
-module _ (r : Ring) (l : Log) (t : Truth) (p k : ℕ) where
-  abbrev v : View
-  v = viewOf r l t
+-- a count of sub-buffer k stored as it was
+module _ (r : Ring) (k : ℕ) where
+  pub commit-back : set (r .commit) k (commitAt r k) ≡ r .commit
+  commit-back = set-getD (r .commit) k (commit 0)
+
+  pub seq-back : set (r .seq) k (seqAt r k) ≡ r .seq
+  seq-back = set-getD (r .seq) k (commit 0)
+
+module _ (r : Ring) (p k : ℕ) where
+  -- the counts after it, by what else they are known to be
+  pub stored-view : (m : Moved) (commits seqs : List Commit) → set (r .commit) k (m .shared .commit) ≡ commits → set (r .seq) k (m .shared .seq) ≡ seqs → (l : Log) (t : Truth) →
+      viewOf (storedOf r p k m) l t
+      ≡ viewOf (rebuilt r (m .shared .write) commits seqs (set (r .producer) p (m .q)) (r .offered) (m .shared .written) (m .shared .lost)) l t
+  stored-view m commits seqs c s l t i =
+      viewOf (rebuilt r (m .shared .write) (c i) (s i) (set (r .producer) p (m .q)) (r .offered) (m .shared .written) (m .shared .lost)) l t
 
   -- a row that writes no shared word
-  still-view : (q : Producer) (t′ : Truth) → viewOf (storedOf r p k (still q (sharedAt r k))) l t′ ≡ stepped p q t′ v
-  still-view q t′ =
-      ap₂ (λ (c s : List Commit). viewOf (record { size = r .size; parts = r .parts; producers = r .producers; write = r .write; read = r .read; commit = c; seq = s; producer = set (r .producer) p q; offered = r .offered; written = r .written; lost = r .lost; holding = r .holding }) l t′)
-      (set-getD (r .commit) k (commit 0)) (set-getD (r .seq) k (commit 0))
+  pub still-view : (l : Log) (t : Truth) (q : Producer) (t′ : Truth) → viewOf (storedOf r p k (still q (sharedAt r k))) l t′ ≡ stepped p q t′ (viewOf r l t)
+  still-view l t q t′ = stored-view (still q (sharedAt r k)) (r .commit) (r .seq) (commit-back r k) (seq-back r k) l t′
 
 module _ (r : Ring) (l : Log) (t : Truth) (p : ℕ) (K : KeepOf (viewOf r l t)) where
   -- a row that writes no shared word, and no seq
@@ -38,6 +49,6 @@ module _ (r : Ring) (l : Log) (t : Truth) (p : ℕ) (K : KeepOf (viewOf r l t)) 
   quiet k q′ t′ elo eQ C =
       record {
         truth = t′;
-        core = subst Core (sym (still-view r l t p k q′ t′)) C;
+        core = subst Core (sym (still-view r p k l t q′ t′)) C;
         keep = rw (elo, eQ) K;
       }

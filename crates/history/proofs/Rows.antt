@@ -12,9 +12,9 @@ use Rattle.ring.specs.Calls.{stepped as afterStep}
 use Rattle.ring.specs.State.{sharedAt, storedOf}
 use Rattle.history.specs.Log.{Log, workAt, eventAt, bytesOf, noteJudge}
 use Rattle.history.specs.History.{noteRow}
-use Rattle.history.proofs.Invariant.{says, Event, Own, Core, KeepOf, Soon}
+use Rattle.history.proofs.Invariant.{says, Event, Core, KeepOf, Soon}
 use Rattle.history.proofs.Move.{calm}
-use Rattle.history.proofs.View.{Truth, View, viewOf, at, work, mark}
+use Rattle.history.proofs.View.{Truth, View, viewOf, at, mark}
 use Rattle.history.proofs.Fitting.{fits-phase}
 use Rattle.history.proofs.Good.{Good}
 use Rattle.history.proofs.RowsAlone.{reading-good, judging-good, goes, opening-good, writing-good}
@@ -29,9 +29,6 @@ module _ (r : Ring) (l : Log) (t : Truth) (p : ℕ) (lt : p < r .producers) (fit
   abbrev q : Producer
   q = at w p
 
-  mine : Own w p q (work w p) (mark w p)
-  mine = I .prod p lt
-
   row-good : (x : Row) → rowOf (q .phase) ≡ x → (Event q → bytesOf (eventAt l (workAt l p .event)) ≡ mark w p .bytes) →
       Good (storedOf r p (partBy x q (r .size) (r .parts)) (movedBy x q (sharedAt r (partBy x q (r .size) (r .parts))) (r .size) (r .parts))) (noteRow x r p l)
   unfolding movedBy noteRow noteJudge says rowOf calm phaseFits
@@ -42,7 +39,7 @@ module _ (r : Ring) (l : Log) (t : Truth) (p : ℕ) (lt : p < r .producers) (fit
   row-good shutting e b = goes r l t p lt fits soon I K shutting e 5 _ tt (λ u. u) (λ u. u) (λ u. absurd u)
   row-good opening e b = opening-good r l t p lt fits soon I K e _
   row-good writing e b = writing-good r l t p lt fits soon I K e _
-  row-good ending e b = goes r l t p lt fits soon I K ending e 16 _ tt (λ u. u) (λ u. u) (λ u. mine .all (rw e tt))
+  row-good ending e b = goes r l t p lt fits soon I K ending e 16 _ tt (λ u. u) (λ u. u) (λ u. I .prod p lt .all (rw e tt))
   row-good (committing whose stage) e b = commit-good r l t p lt fits soon I K whose stage e
   row-good nothing e b = absurd (false≢true (fits-phase q (r .size) nothing fits e))
 

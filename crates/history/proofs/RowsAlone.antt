@@ -1,16 +1,12 @@
 -- The rows of a producer that write no count: read, judge, close, open, write and end.
 use Prim.Native.Nat.{ℕ, _+_, _*_, _%_, _≤_, _<_}
-use mathlib.Core.Path.{_≡_, refl, sym, ap, ap₂, subst, subst₂, _∙_}
+use mathlib.Core.Path.{_≡_, refl, sym, ap, subst, subst₂, _∙_}
 use mathlib.Core.Bool.{Bool, true, false, cond, _&&_, false≢true}
-use mathlib.Core.List.{List}
 use native.Mathlib.Decide.{decLt, ℕ-discrete}
 use native.Mathlib.Omega.{arith}
 use lib.Dec.{T}
-use lib.ListN.{getD, set}
-use lib.Seq.{set-getD}
+use lib.ListN.{getD}
 use borrow.Author.Tests.{leb-false}
-use Rattle.counts.specs.declared.commit.Commit.{Commit}
-use Rattle.counts.specs.Commit.{commit}
 use Rattle.counts.specs.Place.{fullOf}
 use Rattle.counts.specs.PlaceLaws.{fit-is}
 use Rattle.counts.specs.Position.{offsetOf, sinceOf}
@@ -33,7 +29,7 @@ use Rattle.history.proofs.Move.{calm}
 use Rattle.history.proofs.Simple.{read-keeps, read-flush-keeps, read-end-keeps, judge-keeps, write-keeps, open-keeps}
 use Rattle.history.proofs.View.{Truth, View, viewOf, at, work, mark, stepped, withPieces}
 use Rattle.history.proofs.Fitting.{fits-phase, fits-done, not-zero, open-event, chunk-end}
-use Rattle.history.proofs.Good.{Good, quiet}
+use Rattle.history.proofs.Good.{Good, still-view, quiet}
 
 -- a distance below B, of two positions that lie less than 2^31 apart
 order : (x y B : ℕ) → B ≤ 65536 → x < y + half → y < x + half → sub32 (x % word) (y % word) < B → x < y + B
@@ -124,9 +120,7 @@ module _ (r : Ring) (l : Log) (t : Truth) (p : ℕ) (lt : p < r .producers) (fit
       ev = open-event q (r .size) (fits-phase q (r .size) opening fits e)
 
       view : viewOf (storedOf r p k (still (toPhase 10 q) (sharedAt r k))) (noteOpen p l) t ≡ stepped p (toPhase 10 q) t (withPieces (noteOpen p l .pieces) w)
-      view =
-          ap₂ (λ (c s : List Commit). viewOf (record { size = r .size; parts = r .parts; producers = r .producers; write = r .write; read = r .read; commit = c; seq = s; producer = set (r .producer) p (toPhase 10 q); offered = r .offered; written = r .written; lost = r .lost; holding = r .holding }) (noteOpen p l) t)
-          (set-getD (r .commit) k (commit 0)) (set-getD (r .seq) k (commit 0))
+      view = still-view r p k (noteOpen p l) t (toPhase 10 q) t
 
   pub writing-good : rowOf (q .phase) ≡ writing → (k : ℕ) → Good (storedOf r p k (still (writeRow q (r .size)) (sharedAt r k))) l
   unfolding says rowOf calm phaseFits

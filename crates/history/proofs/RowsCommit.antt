@@ -9,7 +9,6 @@ use native.Mathlib.Decide.{ℕ-discrete}
 use native.Mathlib.Omega.{arith}
 use lib.Dec.{T}
 use lib.ListN.{length, getD, set}
-use lib.Seq.{set-getD}
 use Rattle.counts.specs.declared.commit.Commit.{Commit}
 use Rattle.counts.specs.Commit.{commit, onOf, roundOf, raisesOf}
 use Rattle.counts.specs.Place.{fitOf}
@@ -38,7 +37,7 @@ use Rattle.history.proofs.Move.{calm}
 use Rattle.history.proofs.View.{Truth, View, viewOf, at, work, mark, piece, withQ, withC, stepped, withSeq, withCommit, withPieces}
 use Rattle.history.proofs.Window.{keep-lag}
 use Rattle.history.proofs.Fitting.{fits-phase, not-zero, pad-next}
-use Rattle.history.proofs.Good.{Good, quiet}
+use Rattle.history.proofs.Good.{Good, commit-back, seq-back, stored-view, quiet}
 
 -- look, see and set of a commit, with fin next when it is done: which clauses its rows ask for
 record Job (whose : Whose) (fin : ℕ) : Type 0 where
@@ -136,8 +135,8 @@ module _ (r : Ring) (l : Log) (t : Truth) (p : ℕ) (lt : p < r .producers) (fit
           view : viewOf (storedOf r p i (takeSet (record { q = toPhase fin q; seq = q .v }) (sharedAt r i))) l (withQ (set (t .Q) i (mark w p .v)) t)
               ≡ stepped p (toPhase fin q) (withQ (set (t .Q) i (mark w p .v)) t) (withSeq (set (r .seq) i (q .v)) w)
           view =
-              ap (λ (k : List Commit). viewOf (record { size = r .size; parts = r .parts; producers = r .producers; write = r .write; read = r .read; commit = k; seq = set (r .seq) i (q .v); producer = set (r .producer) p (toPhase fin q); offered = r .offered; written = r .written; lost = r .lost; holding = r .holding }) l (withQ (set (t .Q) i (mark w p .v)) t))
-              (set-getD (r .commit) i (commit 0))
+              stored-view r p i (takeSet (record { q = toPhase fin q; seq = q .v }) (sharedAt r i)) (r .commit) (set (r .seq) i (q .v)) (commit-back r i) refl l
+              (withQ (set (t .Q) i (mark w p .v)) t)
 
           stored : s .0 ≡ q .s .0 → Good (storedOf r p i (takeSet (record { q = toPhase fin q; seq = q .v }) (sharedAt r i))) l
           stored same =
@@ -179,8 +178,8 @@ module _ (r : Ring) (l : Log) (t : Truth) (p : ℕ) (lt : p < r .producers) (fit
           (logPieces (set (l .pieces) j (done (piece w j))) l) (withC C′ t)
           ≡ stepped p (toPhase ph q) (withC C′ t) (withPieces (set (l .pieces) j (done (piece w j))) (withCommit (set (r .commit) i (onOf (getD (r .commit) i (commit 0)) m)) w))
       view =
-          ap (λ (k : List Commit). viewOf (record { size = r .size; parts = r .parts; producers = r .producers; write = r .write; read = r .read; commit = set (r .commit) i (onOf (getD (r .commit) i (commit 0)) m); seq = k; producer = set (r .producer) p (toPhase ph q); offered = r .offered; written = written; lost = r .lost; holding = r .holding }) (logPieces (set (l .pieces) j (done (piece w j))) l) (withC C′ t))
-          (set-getD (r .seq) i (commit 0))
+          stored-view r p i (takeAdd (record { q = toPhase ph q; commit = onOf (getD (r .commit) i (commit 0)) m; written = written }) (sharedAt r i))
+          (set (r .commit) i (onOf (getD (r .commit) i (commit 0)) m)) (r .seq) refl (seq-back r i) (logPieces (set (l .pieces) j (done (piece w j))) l) (withC C′ t)
 
   -- two pieces that differ in what they are
   other : (i j : ℕ) (a b : Whose) → piece w i .whose ≡ a → piece w j .whose ≡ b → (a ≡ b → ⊥) → i ≢ j

@@ -7,9 +7,7 @@ use native.Mathlib.Decide.{ℕ-discrete}
 use native.Mathlib.Omega.{arith}
 use lib.Dec.{T, eqb}
 use lib.ListN.{length, getD, set}
-use lib.Seq.{set-getD}
 use borrow.Author.Tests.{eq-eqb, ne-eqb}
-use Rattle.counts.specs.declared.commit.Commit.{Commit}
 use Rattle.counts.specs.declared.position.Position.{Position}
 use Rattle.counts.specs.Commit.{commit}
 use Rattle.counts.specs.Place.{Fit, entering, inside, closing, fitOf}
@@ -36,7 +34,7 @@ use Rattle.history.proofs.Reserve.{pieces-size}
 use Rattle.history.proofs.Swap.{landing, saw-all, slot-keeps, pad-keeps}
 use Rattle.history.proofs.View.{Truth, View, viewOf, at, work, mark, withMark}
 use Rattle.history.proofs.Fitting.{fits-phase, flush-past}
-use Rattle.history.proofs.Good.{Good}
+use Rattle.history.proofs.Good.{Good, commit-back, seq-back, stored-view}
 
 -- the padding's size
 pad-size : (p W S : ℕ) → sizes (pad p W S) ≡ S - W % S
@@ -63,8 +61,7 @@ module _ (r : Ring) (l : Log) (t : Truth) (p : ℕ) (lt : p < r .producers) (fit
 
   swap-view : (k : ℕ) (q′ : Producer) (x : Position) (lost : ℕ) (l′ : Log) (t′ : Truth) → viewOf (storedOf r p k (takeSwap (swapped q′ x lost) (sharedAt r k))) l′ t′ ≡ swapView q′ x l′ t′
   swap-view k q′ x lost l′ t′ =
-      ap₂ (λ (c s : List Commit). viewOf (record { size = r .size; parts = r .parts; producers = r .producers; write = x; read = r .read; commit = c; seq = s; producer = set (r .producer) p q′; offered = r .offered; written = r .written; lost = lost; holding = r .holding }) l′ t′)
-      (set-getD (r .commit) k (commit 0)) (set-getD (r .seq) k (commit 0))
+      stored-view r p k (takeSwap (swapped q′ x lost) (sharedAt r k)) (r .commit) (r .seq) (commit-back r k) (seq-back r k) l′ t′
 
   -- its answer, case by case
   pub swap-good : (k : ℕ) (q′ : Producer) (x : Position) (lost : ℕ) (l′ : Log) (t′ : Truth) → KeepOf (swapView q′ x l′ t′) → Core (swapView q′ x l′ t′) →

@@ -1,15 +1,16 @@
 -- What is proved of doing a line.
-use Prim.Native.Nat.{ℕ, zero, suc, _≤_, min}
+use Prim.Native.Nat.{ℕ, zero, suc, _*_, _≤_, min}
 use mathlib.Core.Bool.{false}
-use mathlib.Core.List.{List, [], _∷_}
-use mathlib.Core.Path.{_≡_, refl, ap, _∙_}
+use mathlib.Core.List.{List, [], _∷_, _++_}
+use mathlib.Core.Path.{_≡_, refl, ap, ap₂, _∙_}
 use native.Mathlib.Nat.{le-of-suc-le-suc, not-suc-le-zero}
 use native.Mathlib.Omega.{arith}
 use lib.ListN.{length, take, drop, replicate}
 use borrow.Author.Tests.{ne-eqb}
 use Rattle.ring.specs.declared.state.Answer.{Answer}
+use Rattle.ring.specs.declared.state.Ring.{Ring}
 use Rattle.script.specs.declared.play.Play.{Play}
-use Rattle.script.specs.Play.{endedOf, answeredOf}
+use Rattle.script.specs.Play.{memoryLent, desksLent, endedOf, answeredOf}
 
 -- ---- the front of a buffer that is lent, and what stands behind it
 
@@ -37,6 +38,16 @@ front n k l e = ap (λ (j : ℕ). take j l) e ∙ take-min n l
 
 pub behind : (n k : ℕ) (l : List ℕ) → k ≡ min n (length l) → drop k l ≡ drop n l
 behind n k l e = ap (λ (j : ℕ). drop j l) e ∙ drop-min n l
+
+-- a call on the fronts b and d of memory and desks, which are as long as the ring asks for: its answer, and memory with what it wrote
+module _ (r : Ring) (memory desks : List ℕ) (b d : ℕ) (memory-is : b ≡ min (r .size * r .parts) (length memory)) (desks-is : d ≡ min (r .producers * r .size) (length desks)) where
+  pub lent-call : (answer : (ring desks : List ℕ) → Answer) (bytes : (ring desks : List ℕ) → List ℕ) (a : Answer) (l : List ℕ) →
+      a ≡ answer (take b memory) (take d desks) → l ≡ bytes (take b memory) (take d desks) →
+      (a ≡ answer (memoryLent r memory) (desksLent r desks)) × (l ++ drop b memory ≡ bytes (memoryLent r memory) (desksLent r desks) ++ drop (r .size * r .parts) memory)
+  lent-call answer bytes a l e f =
+      let x = front (r .size * r .parts) b memory memory-is in
+      let y = front (r .producers * r .size) d desks desks-is in
+      (e ∙ ap₂ answer x y, ap₂ (λ (u v : List ℕ). u ++ v) (f ∙ ap₂ bytes x y) (behind (r .size * r .parts) b memory memory-is))
 
 -- ---- the payload
 

@@ -1,12 +1,10 @@
 -- `script::play::run` meets its contract.
-use mathlib.Core.List.{List, _++_}
-use Prim.Native.Nat.{ℕ, _*_}
-use mathlib.Core.Path.{sym, ap₂, _∙_}
+use mathlib.Core.Path.{sym}
 use lib.Seq.{length-take-le}
 use denote.Ref.{now}
 use Rattle.runs.specs.Run.{runOf, runBytes}
 use Rattle.script.specs.Play.{answerOf, memoryOf}
-use Rattle.script.specs.PlayLaws.{front, behind}
+use Rattle.script.specs.PlayLaws.{lent-call}
 use borrow.Author.Needs.{needs}
 use Rattle.script.proofs.play.run.Statement.{statement}
 use Rattle.script.proofs.play.run.Tie as tie
@@ -36,12 +34,9 @@ returns : tie.Need-returns
 unfolding answerOf memoryOf
 returns c =
     let a = c .before .before .before .before .before .before .before .before .before .args in
-    let l = c .before .before .before .before .before .before .lent .ensures in
-    let f = front (a .ring .size * a .ring .parts) _ (now (a .memory)) l in
-    let g = front (a .ring .producers * a .ring .size) _ (now (a .desks)) (c .before .before .before .before .before .lent2 .ensures) in (
-      c .before .before .run .ensures .0 ∙ ap₂ (λ (x y : List ℕ). runOf (a .ring) (a .p) x y) f g,
-      ap₂ (λ (x y : List ℕ). x ++ y) (c .before .before .run .ensures .1 ∙ ap₂ (λ (x y : List ℕ). runBytes (a .ring) (a .p) x y) f g) (behind (a .ring .size * a .ring .parts) _ (now (a .memory)) l),
-    )
+    let e = c .before .before .run .ensures in
+    lent-call (a .ring) (now (a .memory)) (now (a .desks)) _ _ (c .before .before .before .before .before .before .lent .ensures) (c .before .before .before .before .before .lent2 .ensures)
+    (λ x y. runOf (a .ring) (a .p) x y) (λ x y. runBytes (a .ring) (a .p) x y) _ _ (e .0) (e .1)
 
 pub run-spec : {M : Type 1} → statement M
 run-spec =

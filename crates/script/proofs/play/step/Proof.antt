@@ -1,13 +1,11 @@
 -- `script::play::step` meets its contract.
-use mathlib.Core.List.{List, _++_}
-use Prim.Native.Nat.{ℕ, _*_}
-use mathlib.Core.Path.{sym, ap₂, _∙_}
+use mathlib.Core.Path.{sym}
 use lib.ListN.{length}
 use lib.Seq.{length-take-le}
 use denote.Ref.{now}
 use Rattle.ring.specs.Calls.{stepOf, stepBytes}
 use Rattle.script.specs.Play.{answerOf, memoryOf}
-use Rattle.script.specs.PlayLaws.{front, behind}
+use Rattle.script.specs.PlayLaws.{lent-call}
 use borrow.Author.Needs.{needs}
 use Rattle.script.proofs.play.step.Statement.{statement}
 use Rattle.script.proofs.play.step.Tie as tie
@@ -37,12 +35,9 @@ returns : tie.Need-returns
 unfolding answerOf memoryOf
 returns c =
     let a = c .before .before .before .before .before .before .before .before .before .args in
-    let l = c .before .before .before .before .before .before .lent .ensures in
-    let f = front (a .ring .size * a .ring .parts) _ (now (a .memory)) l in
-    let g = front (a .ring .producers * a .ring .size) _ (now (a .desks)) (c .before .before .before .before .before .lent2 .ensures) in (
-      c .before .before .step .ensures .0 ∙ ap₂ (λ (x y : List ℕ). stepOf (a .ring) (a .p) (length x) (length y)) f g,
-      ap₂ (λ (x y : List ℕ). x ++ y) (c .before .before .step .ensures .1 ∙ ap₂ (λ (x y : List ℕ). stepBytes (a .ring) (a .p) x y) f g) (behind (a .ring .size * a .ring .parts) _ (now (a .memory)) l),
-    )
+    let e = c .before .before .step .ensures in
+    lent-call (a .ring) (now (a .memory)) (now (a .desks)) _ _ (c .before .before .before .before .before .before .lent .ensures) (c .before .before .before .before .before .lent2 .ensures)
+    (λ x y. stepOf (a .ring) (a .p) (length x) (length y)) (λ x y. stepBytes (a .ring) (a .p) x y) _ _ (e .0) (e .1)
 
 pub step-spec : {M : Type 1} → statement M
 step-spec =
