@@ -1,13 +1,15 @@
 // A benchmark of whole uninterrupted events: an offer and its steps to the end, and a get and a put whenever a part is ready. It reads
 // S, N, P, the producer, the payload's length and the number of events from standard input, so that none of them is a constant, and
 // prints the counts and the sum of ring memory, so that no work can be left out. Time it from outside.
+#![tactic(auto)]
+
 ghost use Rattle.std.specs.Prelude.{◌≤◌};
 
 use counts::position::Position;
 use ring::state::Ring;
 
 // A number read from a text, and where the text goes on.
-#[derive(Drop)]
+#[derive(Clone, Copy)]
 struct Number {
     value: u32,
     next: usize,

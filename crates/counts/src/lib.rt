@@ -3,6 +3,8 @@
 //
 // Every function answers for every argument, by document 01's formulas as they stand. x mod 0 is x and x / 0 is 0, as in the
 // arithmetic of the definitions; no ring call gets so far with such a size (refusal 1).
+#![tactic(auto)]
+
 pub mod commit;
 pub mod divide;
 pub mod place;

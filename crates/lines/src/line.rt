@@ -1,5 +1,5 @@
 // What a line of the replay program asks for; Bad if it is of none of the forms.
-#[derive(Drop)]
+#[derive(Clone, Copy)]
 pub enum Line {
     New(u32, u32, u32, u32),
     Offer(u32, u8, u16),

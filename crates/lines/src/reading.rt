@@ -9,7 +9,7 @@ use super::line::Line;
 // order, or 8 if the line is bad. rest: the letters of the word that are to come, as one number to base 256, the next one lowest.
 // count: how many numbers were begun. filled: whether the word or number being read is whole. value: the number being read; a, b, c:
 // those before it.
-#[derive(Drop)]
+#[derive(Clone, Copy)]
 pub struct Reading {
     pub word: u32,
     pub rest: u32,

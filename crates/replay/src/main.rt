@@ -1,6 +1,8 @@
 // The replay program (document 01): reads lines from standard input to its end, makes the call of each, and prints for each the answer
 // and the counts. What is made of a part of the input and what is to be printed for it is proved in program.rt; here it is read and
 // printed.
+#![tactic(auto)]
+
 ghost use Rattle.std.specs.Prelude.{◌*◌, ◌≤◌, length};
 
 mod program;

@@ -7,7 +7,7 @@ use lines::reading::Reading;
 use script::play::Play;
 
 // The line that is being read, the ring and what was answered last, and how many bytes are to be printed.
-#[derive(Drop)]
+#[derive(Clone, Copy)]
 pub struct Program {
     pub reading: Reading,
     pub play: Play,

@@ -8,7 +8,7 @@ use lines::line::Line;
 use ring::state::{Answer, Ring};
 
 // Whether a ring was made, whether a bad line has ended the program, the last line's answer, and the ring.
-#[derive(Drop)]
+#[derive(Clone, Copy)]
 pub struct Play {
     pub begun: bool,
     pub over: bool,

@@ -1,5 +1,7 @@
 // The worked bytes of document 01 ("The replay program"): one record of kind 1 by producer 0 with two bytes of payload, laid out at
 // position 0 with no loss in a sub-buffer of 64 bytes. Prints the bytes up to the used size, and what the decoder answers of them.
+#![tactic(auto)]
+
 use counts::position::Position;
 use parts::part::Decoded;
 
