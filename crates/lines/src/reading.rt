@@ -44,6 +44,7 @@ fn bad() -> Reading
 }
 
 // The word that a first letter begins: new, offer, flush, step, run, get, put.
+#[tactic(auto, unfolding(crate::specs::Reading::first_of, crate::specs::Reading::packed))]
 fn first(b: u8) -> Reading
     ensures { result ≡ first_of b }
 {
@@ -60,6 +61,7 @@ fn first(b: u8) -> Reading
 }
 
 // How many numbers follow a word.
+#[tactic(auto, unfolding(crate::specs::Reading::numbers_of))]
 fn numbers(word: u32) -> u32
     ensures { result ≡ numbers_of word }
 {
@@ -187,6 +189,7 @@ impl Reading {
     }
 
     // The line, its last byte being read.
+    #[tactic(auto, unfolding(crate::specs::Reading::line_in, crate::specs::Reading::made_of))]
     pub fn line(self) -> Line
         ensures { result ≡ line_in self }
     {

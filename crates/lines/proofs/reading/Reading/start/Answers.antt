@@ -1,0 +1,6 @@
+-- `lines::reading::Reading::start` meets its contract.
+use borrow.Author.Rules.{rules}
+use Rattle.lines.proofs.reading.Reading.start.Goals as goal
+
+pub returns : goal.returns
+returns c = c.begins.ensures
