@@ -63,11 +63,11 @@ unfolding FitIs
 closing_past o z S h = h.0
 
 -- the slot's part is in the window
-part_in : (S N lo W z : ℕ) (f : Fit) → 0 < S → FitIs f (W % S) z S → W ≤ lo * S + S * N → (is_entering f ≡ true → part_in f S W < lo + N) → part_in f S W < lo + N
+part-in : (S N lo W z : ℕ) (f : Fit) → 0 < S → FitIs f (W % S) z S → W ≤ lo * S + S * N → (is_entering f ≡ true → part_in f S W < lo + N) → part_in f S W < lo + N
 unfolding FitIs part_in
-part_in S N lo W z inside s h hi room = lt_of_mul S (W / S) (lo + N) (omega (arith, div-add-mod' W S))
-part_in S N lo W z entering s h hi room = room refl
-part_in S N lo W z closing s h hi room = room refl
+part-in S N lo W z inside s h hi room = lt_of_mul S (W / S) (lo + N) (omega (arith, div-add-mod' W S))
+part-in S N lo W z entering s h hi room = room refl
+part-in S N lo W z closing s h hi room = room refl
 
 -- ---- the row
 
@@ -129,7 +129,7 @@ module _ (v : View) (p : ℕ) (lt : p < v.P) (e : row_of (at v p).phase ≡ swap
             arith,
             end_is,
             slot_fits v.S (s_pos I.shape) f v.W (at v p).z spec sized.fits,
-            mul-le-mul_right v.S (part_in v.S v.N v.truth.lo v.W (at v p).z f (s_pos I.shape) spec I.span.high room),
+            mul-le-mul_right v.S (part-in v.S v.N v.truth.lo v.W (at v p).z f (s_pos I.shape) spec I.span.high room),
           )
 
       past_head : 0 < end % v.S → header < end % v.S
