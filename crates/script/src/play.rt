@@ -66,6 +66,7 @@ fn run(ring: Ring, p: u32, memory: &mut [u8], desks: &[u8]) -> Answer
 }
 
 // Makes the call of a line, a new's too. A bad line makes none.
+#[tactic(auto, unfolding(crate::specs::Play::answer_of, crate::specs::Play::memory_of, crate::specs::Play::desks_of))]
 fn call(ring: Ring, line: Line, memory: &mut [u8], desks: &mut [u8]) -> Answer
     ensures value { result ≡ answer_of ring line memory.old desks.old }
     ensures memory_after { memory.new ≡ memory_of ring line memory.old desks.old }
