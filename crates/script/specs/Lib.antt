@@ -1,4 +1,3 @@
--- What the contracts of this crate cite, and what is proved of it: doing a line, and that what is lent is long enough.
+-- What the contracts of this crate cite, and what is proved of it: doing a line.
 pub mod Play
 pub mod PlayLaws
-pub mod LentLaws

@@ -1,0 +1,2 @@
+-- What is proved of a script's ring, apart from the functions' own proofs.
+pub mod LentLaws
