@@ -125,6 +125,7 @@ impl Reading {
     }
 
     // A byte of a number: a digit that leaves it within its limit, or the line is bad.
+    #[tactic(auto, unfolding(crate::specs::Reading::digit_of))]
     fn digit(self, b: u8) -> Reading
         ensures { result ≡ digit_of self b }
     {

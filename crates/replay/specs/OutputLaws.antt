@@ -14,7 +14,7 @@ use Rattle.script.specs.Play.{start_play, done_of, done_memory, done_desks}
 use Rattle.replay.specs.Program.{State, state_of, start_program, lined_of, fed_of, said_of, fed_all, said_all, last_said, in_parts}
 use Rattle.replay.specs.ProgramLaws.{fed_over, said_over, fed_line, said_line, fed_byte, said_byte, last_over, last_none, last_line}
 use Rattle.lines.specs.Reading.{start_of, first_of, letter_of, numbers_of, limit_of, digit_of, space_of, take_of, take_all}
-use Rattle.lines.specs.ReadingLaws.{reads}
+use Rattle.lines.proofs.ReadingLaws.{reads}
 use Rattle.replay.specs.Text.{told_of}
 
 -- ---- parts of the input

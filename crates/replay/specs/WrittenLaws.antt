@@ -6,7 +6,7 @@ use Rattle.std.proofs.Common.{ap, ap₂, ◌∙◌, mod-lt, pow-suc, arith, leng
 use Rattle.lines.specs.declared.line.Line.{Line}
 use Rattle.lines.specs.declared.line.Line.TheVariants.{New, Offer, Flush, Step, Run, Get, Put, Bad}
 use Rattle.lines.specs.Line.{first_field, later_fields, same, is_digit, all_digits, value_from, value_of, is_number, fit, most, form_of, line_of, word_new, word_offer, word_flush, word_step, word_run, word_get, word_put}
-use Rattle.lines.specs.ReadingLaws.{no_true, both_true}
+use Rattle.lines.proofs.ReadingLaws.{no_true, both_true}
 use Rattle.replay.specs.Text.{decimal_by, decimal_of}
 use Rattle.replay.specs.Written.{spelled, written, Fits}
 

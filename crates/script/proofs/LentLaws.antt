@@ -18,7 +18,7 @@ use Rattle.lines.specs.declared.line.Line.{Line}
 use Rattle.lines.specs.declared.line.Line.TheVariants.{New, Offer, Flush, Step, Run, Get, Put, Bad}
 use Rattle.script.specs.declared.play.Play.{Play}
 use Rattle.script.specs.Play.{play_of, memory_lent, desks_lent, answer_of, start_play, allowed, ended_of, answered_of, done_of}
-use Rattle.lines.specs.ReadingLaws.{no_true}
+use Rattle.lines.proofs.ReadingLaws.{no_true}
 
 abbrev pub shape_at : Ring → Bool
 shape_at r = shape_of r.size r.parts r.producers

@@ -1,0 +1,2 @@
+-- What is proved of reading a line, apart from the functions' own proofs.
+pub mod ReadingLaws
