@@ -11,7 +11,7 @@ use Rattle.steps.specs.Producer.{nobody}
 use Rattle.steps.specs.Step.{padding, heading, slot, add, look, see, set, Row, idle, reading, judging, swapping, closing, opening, writing, ending, committing, nothing, row_of}
 use Rattle.ring.specs.declared.state.Ring.{Ring}
 use Rattle.history.specs.Lists.{many}
-use Rattle.history.specs.Log.{isopen, written, lost, is_open, is_written, is_lost, Note, Event, Piece, Work, Log, no_rec, no_piece, no_work, offered, is_heading, bytes_of}
+use Rattle.history.specs.Log.{isopen, written, is_open, is_written, is_lost, Note, Event, Piece, Work, Log, no_rec, no_piece, no_work, offered, is_heading, bytes_of}
 use Rattle.history.proofs.Invariant.{says_of}
 
 -- ---- who is at an event

@@ -11,7 +11,7 @@ use lib.Seq.{set-get_or, get_or-set_same}
 use Rattle.steps.specs.declared.producer.Producer.{Producer}
 use Rattle.steps.specs.Fits.{fits_of}
 use Rattle.steps.specs.Producer.{nobody}
-use Rattle.steps.specs.Step.{slot, swapping, row_of}
+use Rattle.steps.specs.Step.{swapping, row_of}
 use Rattle.ring.specs.declared.state.Ring.{Ring}
 use Rattle.ring.specs.Calls.{stepped as afterStep}
 use Rattle.ring.specs.State.{at}

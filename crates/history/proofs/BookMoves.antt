@@ -10,7 +10,6 @@ use lib.ListN.{length, set}
 use lib.Seq.{set-get_or}
 use borrow.Author.Tests.{eq-eqb}
 use Rattle.counts.specs.declared.commit.Commit.{Commit}
-use Rattle.counts.specs.Commit.{commit}
 use Rattle.counts.specs.Tests.{and_right}
 use Rattle.steps.specs.declared.producer.Producer.{Producer}
 use Rattle.steps.specs.Fits.{size_fits, phase_fits, fits_of}
@@ -18,7 +17,7 @@ use Rattle.steps.specs.Producer.{flushing}
 use Rattle.steps.specs.Step.{padding, heading, slot, add, look, see, set as setting, Row, idle, reading, judging, swapping, closing as shutting, opening, writing, ending, committing, nothing, row_of, moved as still, take_add}
 use Rattle.ring.specs.declared.state.Ring.{Ring}
 use Rattle.ring.specs.State.{at, shared_at, stored_of}
-use Rattle.history.specs.Log.{written, Event, Piece, Work, Log, no_work, work_at, piece_at, with_pieces, done, noted, pieces}
+use Rattle.history.specs.Log.{Event, Piece, Work, Log, no_work, work_at, piece_at, with_pieces, noted}
 use Rattle.history.proofs.Book.{owning, Owns, Owner, Entries, Book}
 use Rattle.history.proofs.BookFrame.{Stays, stays}
 use Rattle.history.proofs.BookSteps.{quiet}

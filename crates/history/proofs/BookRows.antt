@@ -20,7 +20,7 @@ use Rattle.steps.specs.Step.{Whose, padding, heading, slot, Stage, add, look, se
 use Rattle.ring.specs.declared.state.Ring.{Ring}
 use Rattle.ring.specs.Calls.{stepped as afterStep}
 use Rattle.ring.specs.State.{at, shared_at, stored_of}
-use Rattle.history.specs.Log.{written, lost, Event, Work, Log, event_at, work_at, piece_at, settled, done, pieces, note_fate, note_open, note_add}
+use Rattle.history.specs.Log.{written, Event, Work, Log, event_at, work_at, piece_at, settled, done, note_fate, note_open, note_add}
 use Rattle.history.specs.History.{note_commit, note_row}
 use Rattle.history.proofs.Book.{owning, Owns, Owner, Book}
 use Rattle.history.proofs.BookSteps.{finish}

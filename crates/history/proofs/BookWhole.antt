@@ -16,7 +16,7 @@ use Rattle.layout.specs.Record.{Rec, record_of}
 use Rattle.layout.specs.Sizes.{header, head, record_size, least_used}
 use Rattle.steps.specs.declared.producer.Producer.{Producer}
 use Rattle.steps.specs.Producer.{nobody, starts}
-use Rattle.steps.specs.Step.{swapping, idle, row_of}
+use Rattle.steps.specs.Step.{swapping, row_of}
 use Rattle.ring.specs.declared.state.Ring.{Ring}
 use Rattle.ring.specs.Calls.{stepped as afterStep, fresh_of}
 use Rattle.ring.specs.Refusals.{fresh_refusal, ready_at}

@@ -10,7 +10,7 @@ use native.Mathlib.Omega.{arith}
 use lib.Dec.{T}
 use lib.ListN.{length}
 use Rattle.steps.specs.Bytes.{put}
-use Rattle.steps.specs.Step.{padding, heading, slot, row_of}
+use Rattle.steps.specs.Step.{padding, row_of}
 use Rattle.history.specs.Log.{Piece}
 use Rattle.history.proofs.Add.{open_low, open_high}
 use Rattle.history.proofs.Bytes.{Last, Whole, PBytes, Claim, of_slot, of_used, of_mark, of_rest, clear_of, claim_fits}

@@ -18,7 +18,7 @@ use Rattle.layout.specs.Sizes.{header, record_size, last_producer}
 use Rattle.steps.specs.Step.{slot}
 use Rattle.ring.specs.declared.reader.Span.{Span}
 use Rattle.ring.specs.declared.state.Ring.{Ring}
-use Rattle.ring.specs.Calls.{held_of, span, between}
+use Rattle.ring.specs.Calls.{held_of, between}
 use Rattle.ring.specs.CallsLaws.{span_held}
 use Rattle.history.specs.Lists.{only, sum_by}
 use Rattle.history.specs.Log.{is_slot, Piece, Log, no_piece, event_at, sizes}

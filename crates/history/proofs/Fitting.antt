@@ -16,9 +16,7 @@ use Rattle.steps.specs.Producer.{flushing}
 use Rattle.steps.specs.Rows.{chunk_of}
 use Rattle.steps.specs.RowsLaws.{chunk_rest, chunk_eight}
 use Rattle.steps.specs.Step.{Row, swapping, opening, row_of}
-use Rattle.history.specs.Log.{done}
 use Rattle.history.proofs.Invariant.{Event}
-use Rattle.history.proofs.View.{at}
 
 pub fits_phase : (q : Producer) (S : ℕ) (x : Row) → fits_of q S ≡ true → row_of q.phase ≡ x → phase_fits x q S ≡ true
 unfolding fits_of

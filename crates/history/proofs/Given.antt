@@ -13,7 +13,7 @@ use Rattle.parts.specs.Reading.{records, read_of}
 use Rattle.layout.specs.Sizes.{header}
 use Rattle.steps.specs.Step.{slot}
 use Rattle.history.specs.Lists.{only, many}
-use Rattle.history.specs.Log.{Event as Offer, lost, is_written, is_slot, Piece, Log, no_piece, no_rec, offered, event_at, sizes}
+use Rattle.history.specs.Log.{Event as Offer, is_written, is_slot, Piece, Log, no_piece, no_rec, offered, event_at, sizes}
 use Rattle.history.specs.Promise.{is_written_slot, slots_in, lost_in}
 use Rattle.history.proofs.Chain.{is-slot}
 use Rattle.history.proofs.Contents.{in_part}

@@ -10,7 +10,7 @@ use Rattle.counts.specs.Place.{Fit, entering, inside, closing}
 use Rattle.layout.specs.Record.{record_of}
 use Rattle.steps.specs.declared.producer.Producer.{Producer}
 use Rattle.ring.specs.declared.state.Ring.{Ring}
-use Rattle.history.specs.Log.{Event as Offer, Fate, written, Piece, Work, Log, no_work, no_rec, offered, work_at, event_at, bytes_of, judged, all_occupied, too_short, settled, placing, pieces, note_judge, note_fate, note_reserved, opened}
+use Rattle.history.specs.Log.{Event as Offer, Fate, Piece, Work, Log, no_work, no_rec, offered, work_at, event_at, bytes_of, judged, all_occupied, too_short, settled, placing, note_judge, note_fate, note_reserved}
 use Rattle.history.proofs.Bytes.{Bytes}
 use Rattle.history.proofs.BytesRows.{BytesOf}
 use Rattle.history.proofs.Invariant.{KeepOf}

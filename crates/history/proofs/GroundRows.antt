@@ -12,7 +12,7 @@ use lib.ListN.{length, get_or, set}
 use borrow.Author.Tests.{eqb-true, eq-eqb, ne_eqb}
 use Rattle.counts.specs.declared.commit.Commit.{Commit}
 use Rattle.counts.specs.Commit.{round_of, raises_of}
-use Rattle.counts.specs.Place.{Fit, inside, closing}
+use Rattle.counts.specs.Place.{Fit, closing}
 use Rattle.counts.specs.Position.{offset_of}
 use Rattle.counts.specs.Tests.{and_left, and_right}
 use Rattle.counts.specs.Wrap.{word, add32}
@@ -27,7 +27,7 @@ use Rattle.steps.specs.RowsLaws.{read_event, read_idle, read_flush, swap_failed,
 use Rattle.steps.specs.Step.{Whose, padding, heading, slot, Stage, add, look, see, set as setting, Row, idle, reading, judging, swapping, closing as shutting, opening, writing, ending, committing, nothing, row_of, phase_of, after_of, commit_by, moved_by}
 use Rattle.ring.specs.declared.state.Ring.{Ring}
 use Rattle.ring.specs.State.{shared_at}
-use Rattle.history.specs.Log.{Event as Offer, written, lost, Piece, Work, Log, work_at, placing, pieces, pad, note_judge, note_fate, note_reserved, note_slot, note_pad, note_open, note_add, with_pieces, opened, piece_at, is_lost}
+use Rattle.history.specs.Log.{Event as Offer, written, lost, Piece, Work, Log, work_at, placing, pad, note_judge, note_fate, note_reserved, note_slot, note_pad, note_open, note_add, with_pieces, opened, piece_at, is_lost}
 use Rattle.history.specs.Lists.{many}
 use Rattle.history.specs.History.{note_swap, note_row}
 use Rattle.history.proofs.Bytes.{Last, Bytes}

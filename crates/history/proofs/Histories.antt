@@ -6,7 +6,7 @@ use lib.ListN.{length, replicate}
 use Rattle.ring.specs.World.{Call, offer, flush, step, get, put}
 use Rattle.history.specs.History.{Moment, ends, fresh}
 use Rattle.history.specs.Promise.{Promise}
-use Rattle.history.proofs.Decided.{counts, delivered}
+use Rattle.history.proofs.Decided.{counts}
 
 -- n steps of p; those past its end are refused
 abbrev pub run : (p n : ℕ) → List Call

@@ -20,7 +20,7 @@ use Rattle.steps.specs.Step.{padding, heading, slot, add, look, see, set as sett
 use Rattle.ring.specs.declared.state.Ring.{Ring}
 use Rattle.ring.specs.Calls.{held_of, stepped as afterStep}
 use Rattle.ring.specs.State.{at, with_holding, with_read}
-use Rattle.history.specs.Log.{lost, is_written, Log, no_piece, work_at, note_offer, note_flush, note_judge, note_fate, note_reserved, note_slot, note_pad, note_open, note_add, note_get, note_put}
+use Rattle.history.specs.Log.{is_written, Log, no_piece, work_at, note_offer, note_flush, note_judge, note_fate, note_reserved, note_slot, note_pad, note_open, note_add, note_get, note_put}
 use Rattle.history.specs.History.{note_swap, note_row}
 use Rattle.history.proofs.Book.{Book, Owns, owning}
 use Rattle.history.proofs.BookGood.{Whole}

@@ -16,10 +16,10 @@ use Rattle.steps.specs.Fits.{phase_fits, fits_of}
 use Rattle.steps.specs.Producer.{nobody, to_phase, with_done, place_at}
 use Rattle.steps.specs.Rows.{read_row, judge_row, chunk_of, write_row}
 use Rattle.steps.specs.RowsLaws.{read_event, read_idle, read_flush, write_on, write_last}
-use Rattle.steps.specs.Step.{look, set as setting, Row, reading, judging, opening, writing, row_of, moved as still}
+use Rattle.steps.specs.Step.{Row, reading, judging, opening, writing, row_of, moved as still}
 use Rattle.ring.specs.declared.state.Ring.{Ring}
 use Rattle.ring.specs.State.{shared_at, stored_of}
-use Rattle.history.specs.Log.{Log, done, pieces, note_open}
+use Rattle.history.specs.Log.{Log, note_open}
 use Rattle.history.specs.Premise.{half}
 use Rattle.history.proofs.Coords.{part_near, part_in, is_entering, Spot, spot}
 use Rattle.history.proofs.Geometry.{s_pos, small, two_parts, lt_of_mul}

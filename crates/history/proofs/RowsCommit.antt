@@ -25,7 +25,7 @@ use Rattle.steps.specs.RowsLaws.{look_round, look_done, set_stored, set_other}
 use Rattle.steps.specs.Step.{Whose, padding, heading, slot, Stage, add, look, see, set as setting, Row, committing, row_of, phase_of, after_of, moved as still, take_add, take_set, commit_by, part_by}
 use Rattle.ring.specs.declared.state.Ring.{Ring}
 use Rattle.ring.specs.State.{shared_at, stored_of}
-use Rattle.history.specs.Log.{Log, done, pieces, note_fate, note_add, with_pieces as logPieces}
+use Rattle.history.specs.Log.{Log, done, note_fate, note_add, with_pieces as logPieces}
 use Rattle.history.specs.History.{note_commit}
 use Rattle.history.proofs.Coords.{part_in, slot_part, part_is, left_is}
 use Rattle.history.proofs.Add.{add_keeps}

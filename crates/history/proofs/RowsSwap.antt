@@ -9,7 +9,6 @@ use lib.Dec.{T, eqb}
 use lib.ListN.{length, get_or, set}
 use borrow.Author.Tests.{eq-eqb, ne_eqb}
 use Rattle.counts.specs.declared.position.Position.{Position}
-use Rattle.counts.specs.Commit.{commit}
 use Rattle.counts.specs.Place.{Fit, entering, inside, closing, fit_of}
 use Rattle.counts.specs.Position.{offset_of, next_of}
 use Rattle.counts.specs.Wrap.{word}

@@ -6,9 +6,8 @@ use Rattle.steps.specs.Producer.{nobody}
 use Rattle.ring.specs.State.{with_producer}
 use Rattle.ring.specs.World.{World}
 use Rattle.history.specs.History.{Moment}
-use Rattle.history.specs.Log.{Log, no_note, lost, event_at, piece_at, with_events, with_pieces, judged, settled, pieces, note_get}
+use Rattle.history.specs.Log.{Log, no_note, lost, event_at, piece_at, with_events, with_pieces, judged, settled, note_get}
 use Rattle.history.specs.Promise.{Fates, Losses, Counts, Once, Stand, Parts, Held}
-use Rattle.history.proofs.Decided.{delivered}
 use Rattle.history.proofs.Histories.{waiting, resumed, confirmed, flushed}
 
 -- another world, another log

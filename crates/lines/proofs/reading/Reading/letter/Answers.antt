@@ -2,7 +2,6 @@
 use Prim.Native.Nat.{◌%◌}
 use borrow.Author.Tests.{eq-eqb, ne_eqb}
 use Rattle.lines.specs.Reading.{letter_of}
-use borrow.Author.Rules.{rules}
 use Rattle.lines.proofs.reading.Reading.letter.Goals as goal
 
 pub returns-then-self-eq0 : goal.returns-then-self-eq0

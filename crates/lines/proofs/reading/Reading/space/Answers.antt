@@ -2,7 +2,6 @@
 use mathlib.Core.Path.{sym}
 use borrow.Author.Tests.{le-leb, lt-leb, not-true, not-false}
 use Rattle.lines.specs.Reading.{space_of}
-use borrow.Author.Rules.{rules}
 use Rattle.lines.proofs.reading.Reading.space.Goals as goal
 
 pub returns-then-not-self : goal.returns-then-not-self

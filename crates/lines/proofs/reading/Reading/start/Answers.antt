@@ -1,5 +1,4 @@
 -- `lines::reading::Reading::start` meets its contract.
-use borrow.Author.Rules.{rules}
 use Rattle.lines.proofs.reading.Reading.start.Goals as goal
 
 pub returns : goal.returns

@@ -1,7 +1,6 @@
 -- `lines::reading::Reading::take` meets its contract.
 use borrow.Author.Tests.{eq-eqb, ne_eqb}
 use Rattle.lines.specs.Reading.{take_of}
-use borrow.Author.Rules.{rules}
 use Rattle.lines.proofs.reading.Reading.take.Goals as goal
 
 pub returns-then-self-eq8 : goal.returns-then-self-eq8

@@ -3,7 +3,6 @@ use mathlib.Core.Path.{sym, ◌∙◌}
 use borrow.Author.Tests.{eq-eqb, ne_eqb, not-true, not-false}
 use Rattle.script.specs.Play.{answered_of}
 use Rattle.script.specs.PlayLaws.{answered_ended}
-use borrow.Author.Rules.{rules}
 use Rattle.script.proofs.play.Play.answered.Goals as goal
 
 pub returns-then-a-eq0 : goal.returns-then-a-eq0

@@ -1,9 +1,7 @@
 -- `script::play::Play::does` meets its contract.
 use mathlib.Core.Path.{refl, sym, ap, ◌∙◌}
-use borrow.Author.Tests.{not-true, not-false}
 use Rattle.ring.specs.declared.state.Answer.{Answer}
 use Rattle.script.specs.Play.{answered_of, done_of, done_memory, done_desks}
-use borrow.Author.Rules.{rules}
 use Rattle.script.proofs.play.Play.does.Goals as goal
 
 pub returns-then-not-is_allowed : goal.returns-then-not-is_allowed

@@ -3,7 +3,6 @@ use mathlib.Core.Bool.{false}
 use mathlib.Core.Path.{ap}
 use Rattle.ring.specs.declared.state.Ring.{Ring}
 use Rattle.script.specs.Play.{play_of}
-use borrow.Author.Rules.{rules}
 use Rattle.script.proofs.play.Play.start.Goals as goal
 
 pub returns : goal.returns
