@@ -1,5 +1,5 @@
 -- `replay::text::put_numbers` meets its contract.
-use Rattle.std.proofs.Common.{ℕ, ◌∷◌, [], ◌++◌, ◌∙◌, take, get_or, ap, arith, refl, rules, sym}
+use Rattle.std.proofs.Common.{ℕ, ◌∷◌, [], ◌++◌, ◌∙◌, take, get_or, ap, arith, rules, sym}
 use Rattle.replay.specs.Text.{decimal_of}
 use Rattle.replay.specs.TextLaws.{joined_step, joined_none}
 use Rattle.replay.proofs.text.put_numbers.Goals as goal

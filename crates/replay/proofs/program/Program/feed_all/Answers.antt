@@ -1,5 +1,5 @@
 -- `replay::program::Program::feed_all` meets its contract.
-use Rattle.std.proofs.Common.{◌∙◌, take, arith, rules, refl, sym}
+use Rattle.std.proofs.Common.{◌∙◌, take, arith, rules, sym}
 use Rattle.replay.specs.Program.{state_of}
 use Rattle.replay.specs.ProgramLaws.{fed_on, said_on, fed_none, said_none}
 use Rattle.replay.proofs.program.Program.feed_all.Goals as goal
