@@ -12,7 +12,7 @@ use Rattle.lines.specs.Line.{line_of}
 use Rattle.replay.specs.Output.{last_line, lines_from, printed, output_of, together}
 use Rattle.script.specs.Play.{start_play, done_of, done_memory, done_desks}
 use Rattle.replay.specs.Program.{State, state_of, start_program, lined_of, fed_of, said_of, fed_all, said_all, last_said, in_parts}
-use Rattle.replay.specs.ProgramLaws.{fed_over, said_over, fed_line, said_line, fed_byte, said_byte, last_over, last_none, last_line}
+use Rattle.replay.specs.ProgramLaws.{fed_over, said_over, fed_line, said_line, fed_byte, said_byte, last_over, last_none, last-line}
 use Rattle.lines.specs.Reading.{start_of, first_of, letter_of, numbers_of, limit_of, digit_of, space_of, take_of, take_all}
 use Rattle.lines.proofs.ReadingLaws.{reads}
 use Rattle.replay.specs.Text.{told_of}
@@ -126,7 +126,7 @@ module _ (p : Play) (m d : List ℕ) where
   unfolding last_line printed Begun
   last [] o = last_none (at [] p m d) o read_none
   last (b ∷ bs) o =
-      last_line (at (b ∷ bs) p m d) o (eqb-false _ 0 (read_begun b bs))
+      last-line (at (b ∷ bs) p m d) o (eqb-false _ 0 (read_begun b bs))
       ∙ ap (λ (s : State). told_of s.play) (lined (b ∷ bs))
       ∙ sym (append-nil (told_of (next (b ∷ bs))))
       ∙ ap (λ (l : List ℕ). told_of (next (b ∷ bs)) ++ l) (sym (ends (next (b ∷ bs)).over))

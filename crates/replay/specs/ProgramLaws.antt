@@ -77,6 +77,6 @@ module _ (s : State) where
   unfolding last_said
   last_none e h = rw (e, eq-eqb s.reading.word 0 h)
 
-  pub last_line : s.play.over ≡ false → (s.reading.word ≡ 0 → ⊥) → last_said s ≡ told_of (lined_of s).play
+  pub last-line : s.play.over ≡ false → (s.reading.word ≡ 0 → ⊥) → last_said s ≡ told_of (lined_of s).play
   unfolding last_said
-  last_line e h = rw (e, ne_eqb s.reading.word 0 h)
+  last-line e h = rw (e, ne_eqb s.reading.word 0 h)

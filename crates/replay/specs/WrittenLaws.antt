@@ -40,8 +40,8 @@ later_last (b ∷ bs) h = rw h.0 (later_last bs h.1)
 
 -- ---- decimal
 
-is_digit : (d : ℕ) → d < 10 → is_digit (48 + d) ≡ true
-is_digit d h = rw (le-ltb (48 + d) 48 (omega arith), le-ltb 57 (48 + d) (omega arith))
+is-digit : (d : ℕ) → d < 10 → is_digit (48 + d) ≡ true
+is-digit d h = rw (le-ltb (48 + d) 48 (omega arith), le-ltb 57 (48 + d) (omega arith))
 
 no_space : (d : ℕ) → eqb (48 + d) 32 ≡ false
 no_space d = ne_eqb (48 + d) 32 (λ q. omega arith)
@@ -74,11 +74,11 @@ decimal (suc k) n = go (ltb n 10) refl (decimal k (n / 10))
   where
     go : (t : Bool) → ltb n 10 ≡ t → Decimal k (n / 10) (decimal_by k (n / 10)) →
         Decimal (suc k) n (cond t ((48 + n) ∷ []) (decimal_by k (n / 10) ++ ((48 + n % 10) ∷ [])))
-    go true e d = record { plain = (no_space n, tt); digits = rw (is_digit n (ltb-true n 10 e)); value = λ h. omega arith; long = λ h. omega arith }
+    go true e d = record { plain = (no_space n, tt); digits = rw (is-digit n (ltb-true n 10 e)); value = λ h. omega arith; long = λ h. omega arith }
     go false e d =
         record {
           plain = plain_snoc (decimal_by k (n / 10)) (48 + n % 10) d.plain (no_space (n % 10));
-          digits = digits_snoc (decimal_by k (n / 10)) (48 + n % 10) d.digits (is_digit (n % 10) (mod-lt n (omega arith)));
+          digits = digits_snoc (decimal_by k (n / 10)) (48 + n % 10) d.digits (is-digit (n % 10) (mod-lt n (omega arith)));
           value = λ h.
               let less : n / 10 < 10 ^ k = omega (arith, pow-suc 10 k) in
               value_snoc 0 (decimal_by k (n / 10)) (48 + n % 10) ∙ (let v = d.value less in omega arith);

@@ -9,6 +9,7 @@ mod program;
 mod text;
 
 use program::Program;
+use std::io::{Read, Stdin};
 
 // Prints the first bytes of a buffer.
 fn print(out: &[u8], used: usize)
@@ -41,15 +42,15 @@ fn end(program: Program, memory: &mut [u8], desks: &mut [u8], out: &mut [u8])
 }
 
 // Reads the input to its end, in parts. A proved loop has to end, and nothing says that the input does: so the loop counts its turns
-// down from a number that no run uses up.
-fn replay(memory: &mut [u8], desks: &mut [u8], out: &mut [u8])
+// down from a number that no run uses up. A read that fails counts as the end.
+fn replay(input: &mut Stdin, memory: &mut [u8], desks: &mut [u8], out: &mut [u8])
     requires { 65340 ≤ length out.old }
 {
     let mut text = [0u8; 990];
     let mut program = Program::start();
     let mut turns = u64::MAX;
     while turns > 0 {
-        let n = io::count(libc::read(0, &mut text), &text);
+        let n = input.read(&mut text).unwrap_or(0);
         if n == 0 {
             end(program, memory, desks, out);
             return;
@@ -62,9 +63,9 @@ fn replay(memory: &mut [u8], desks: &mut [u8], out: &mut [u8])
     }
 }
 
-fn main() {
+fn main(rt: HostRuntime) {
     let mut memory = io::large_buffer();
     let mut desks = [0u8; 32768];
     let mut out = io::large_buffer();
-    replay(&mut memory, &mut desks, &mut out);
+    replay(&mut rt.stdin(), &mut memory, &mut desks, &mut out);
 }

@@ -27,6 +27,7 @@ impl Program {
     }
 
     // Does the line that was read, and prints its answer.
+    #[tactic(auto, unfolding(crate::specs::Program::lined_of))]
     fn line(self, memory: &mut [u8], desks: &mut [u8], out: &mut [u8]) -> Program
         requires { self.used + 66 ≤ length out.old }
         ensures used_bound { result.used ≤ self.used + 66 }
@@ -45,6 +46,7 @@ impl Program {
     }
 
     // The next byte of the input. After a bad line nothing is done.
+    #[tactic(auto, unfolding(crate::specs::Program::fed_of, crate::specs::Program::said_of))]
     fn feed(self, b: u8, memory: &mut [u8], desks: &mut [u8], out: &mut [u8]) -> Program
         requires { self.used + 66 ≤ length out.old }
         ensures used_bound { result.used ≤ self.used + 66 }
@@ -90,6 +92,7 @@ impl Program {
     }
 
     // The end of the input: a last line without a line feed counts.
+    #[tactic(auto, unfolding(crate::specs::Program::last_said))]
     pub(crate) fn finish(self, memory: &mut [u8], desks: &mut [u8], out: &mut [u8]) -> usize
         requires { 66 ≤ length out.old }
         ensures upper_bound { result ≤ length out.new }

@@ -5,6 +5,7 @@ ghost use Rattle.replay.specs.Text.{decimal_of, end_of, joined, numbers_told, ba
 use script::play::Play;
 
 // Copies a text behind the first bytes of a buffer, and answers how many there are then.
+#[tactic(auto, using(crate::specs::TextLaws::text_behind))]
 fn put_text(out: &mut [u8], at: usize, text: &[u8]) -> usize
     requires { at + length text.now ≤ length out.old }
     ensures value { result ≡ at + length text.now }
@@ -70,6 +71,7 @@ fn numbers(play: Play) -> [u32; 6]
 }
 
 // Puts what the last line prints behind the first bytes of a buffer, and answers how many there are then.
+#[tactic(auto, unfolding(crate::specs::Text::told_of))]
 pub(crate) fn tell(play: Play, out: &mut [u8], at: usize) -> usize
     requires { at + 66 ≤ length out.old }
     ensures upper_bound { result ≤ at + 66 }
