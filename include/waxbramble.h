@@ -1,4 +1,4 @@
-/* The calls of the ring for C. Link with target/staticlib/libapi.a (x86-64). The rules are docs/01-scope.md.
+/* The calls of the ring for C. Link with crates/api/out/libapi.a (x86-64). The rules are docs/01-scope.md.
  *
  * The state goes in by value and comes back by value. A slice is a pointer and a length. Every call answers for every state and every
  * argument: 0 for done, or the number of the refusal, and then the state it got and no byte of lent memory changed. Pointers must be

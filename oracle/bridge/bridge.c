@@ -1,9 +1,9 @@
 /* The bridge: calls the first implementation for an asker in another process.
 
-   Its code is x86-64 code always, and the machine may be of another kind; so the
-   asker sends calls through one pipe and gets the answers, in order, through
-   another. A frame is a call or an answer: eight numbers, the lengths of three
-   byte strings, and those strings, all numbers little-endian in 64 bits. */
+   The asker has no unsafe code, which a call of C takes; so it sends calls through
+   one pipe and gets the answers, in order, through another. A frame is a call or
+   an answer: eight numbers, the lengths of three byte strings, and those strings,
+   all numbers little-endian in 64 bits. */
 
 #include "bridge.h"
 

@@ -1,5 +1,5 @@
-//! The first implementation is x86-64 code, and this machine may be of another
-//! kind. So it runs in a process of its own, the bridge, which `bridge/build`
+//! The first implementation is called through C, which takes unsafe code, and here
+//! is none. So it runs in a process of its own, the bridge, which `bridge/build`
 //! builds; calls go there and answers come back through pipes.
 //!
 //! A single call through a pipe is slow. So calls wait until many can be sent at

@@ -2,7 +2,7 @@
 //! values, then random ones. Ends with status 1 at the first mismatch, if the
 //! bridge fails, or if a kind of case that matters never occurred.
 //!
-//! Before it come, in this order, `rt staticlib probe` and `oracle/bridge/build`.
+//! Before it come, in this order, `rt lib` in crates/probe and `oracle/bridge/build`.
 
 use std::process::ExitCode;
 

@@ -3,7 +3,7 @@
 //! first mismatch, if the bridge fails, or if a kind of case that matters never
 //! occurred.
 //!
-//! Before it come, in this order, `rt staticlib probe` and `oracle/bridge/build`.
+//! Before it come, in this order, `rt lib` in crates/probe and `oracle/bridge/build`.
 
 use std::process::ExitCode;
 

@@ -1,5 +1,5 @@
-//! The first implementation's replay program, an x86-64 program that its run
-//! script, which `bridge/build` writes, runs on any machine.
+//! The first implementation's replay program, which the run script that
+//! `bridge/build` writes starts.
 
 use std::env;
 use std::ffi::OsString;
