@@ -6,13 +6,14 @@ use Rattle.std.proofs.Common.{sym, ap, ◌∙◌, drop_of_length-le}
 use native.Mathlib.Omega.{arith}
 use Rattle.std.proofs.Math.Seq.{drop-cons}
 use borrow.Author.Tests.{eq-eqb, ne_eqb}
-use Rattle.replay.specs.Program.{State, lined_of, fed_of, said_of, fed_all, said_all, last_said}
+use Rattle.replay.specs.declared.program.Program.{Program}
+use Rattle.replay.specs.Program.{lined_of, fed_of, said_of, fed_all, said_all, last_said}
 use Rattle.lines.specs.Reading.{take_of}
 use Rattle.replay.specs.Text.{told_of}
 
 -- ---- a byte
 
-module _ (s : State) (b : ℕ) where
+module _ (s : Program) (b : ℕ) where
   pub fed_over : s.play.over ≡ true → fed_of s b ≡ s
   unfolding fed_of
   fed_over e = rw e
@@ -40,7 +41,7 @@ module _ (s : State) (b : ℕ) where
 
 -- ---- bytes one after the other
 
-module _ (s t : State) (bs : List ℕ) (i : ℕ) (h : i < length bs) (e : t ≡ fed_of s (get_or bs i 0)) where
+module _ (s t : Program) (bs : List ℕ) (i : ℕ) (h : i < length bs) (e : t ≡ fed_of s (get_or bs i 0)) where
   -- one byte more
   pub fed_on : fed_all t (drop (i + 1) bs) ≡ fed_all s (drop i bs)
   unfolding fed_all
@@ -56,7 +57,7 @@ module _ (s t : State) (bs : List ℕ) (i : ℕ) (h : i < length bs) (e : t ≡ 
       ∙ append_assoc before (said_of s (get_or bs i 0)) (said_all t (drop (i + 1) bs))
       ∙ ap (λ (l : List ℕ). before ++ l) (sym said_next)
 
-module _ (s : State) (bs : List ℕ) (i : ℕ) (h : length bs ≤ i) where
+module _ (s : Program) (bs : List ℕ) (i : ℕ) (h : length bs ≤ i) where
   -- no byte is left
   pub fed_none : fed_all s (drop i bs) ≡ s
   unfolding fed_all
@@ -68,7 +69,7 @@ module _ (s : State) (bs : List ℕ) (i : ℕ) (h : length bs ≤ i) where
 
 -- ---- the end of the input
 
-module _ (s : State) where
+module _ (s : Program) where
   pub last_over : s.play.over ≡ true → last_said s ≡ []
   unfolding last_said
   last_over e = rw e
