@@ -13,13 +13,13 @@ use ring::state::{Answer, Ring};
 pub extern "C" fn waxbramble_fresh(size: u32, parts: u32, producers: u32, start: u32) -> Answer
     ensures { result ≡ fresh_of size parts producers (position start) }
 {
-    Ring::fresh(size, parts, producers, Position(start))
+    Answer::made(Ring::fresh(size, parts, producers, Position(start)))
 }
 
 // The event goes to the producer's desk.
 #[unsafe(no_mangle)]
 pub extern "C" fn waxbramble_offer(
-    r: Ring,
+    mut r: Ring,
     p: u32,
     kind: u8,
     payload: &[u8],
@@ -28,49 +28,49 @@ pub extern "C" fn waxbramble_offer(
     ensures value { result ≡ offer_of r p (length payload.now) (length desks.old) }
     ensures desks_after { desks.new ≡ offer_bytes r p kind payload.now desks.old }
 {
-    r.offer(p, kind, payload, desks)
+    Answer::of(r.offer(p, kind, payload, desks), r)
 }
 
 // A flush of the newest sub-buffer.
 #[unsafe(no_mangle)]
-pub extern "C" fn waxbramble_flush(r: Ring, p: u32) -> Answer
+pub extern "C" fn waxbramble_flush(mut r: Ring, p: u32) -> Answer
     ensures { result ≡ flush_of r p }
 {
-    r.flush(p)
+    Answer::of(r.flush(p), r)
 }
 
 // One step of producer p.
 #[unsafe(no_mangle)]
-pub extern "C" fn waxbramble_step(r: Ring, p: u32, ring: &mut [u8], desks: &[u8]) -> Answer
+pub extern "C" fn waxbramble_step(mut r: Ring, p: u32, ring: &mut [u8], desks: &[u8]) -> Answer
     ensures value { result ≡ step_of r p (length ring.old) (length desks.now) }
     ensures ring_after { ring.new ≡ step_bytes r p ring.old desks.now }
 {
-    r.step(p, ring, desks)
+    Answer::of(r.step(p, ring, desks), r)
 }
 
 // Steps of producer p until it is idle.
 #[unsafe(no_mangle)]
-pub extern "C" fn waxbramble_run(r: Ring, p: u32, ring: &mut [u8], desks: &[u8]) -> Answer
+pub extern "C" fn waxbramble_run(mut r: Ring, p: u32, ring: &mut [u8], desks: &[u8]) -> Answer
     ensures value { result ≡ run_of r p ring.old desks.now }
     ensures ring_after { ring.new ≡ run_bytes r p ring.old desks.now }
 {
-    runs::run::run(r, p, ring, desks)
+    Answer::of(runs::run::run(&mut r, p, ring, desks), r)
 }
 
 // Holds the sub-buffer at the read count.
 #[unsafe(no_mangle)]
-pub extern "C" fn waxbramble_get(r: Ring) -> Answer
+pub extern "C" fn waxbramble_get(mut r: Ring) -> Answer
     ensures { result ≡ get_of r }
 {
-    r.get()
+    Answer::of(r.get(), r)
 }
 
 // Moves the read count on, and holds nothing.
 #[unsafe(no_mangle)]
-pub extern "C" fn waxbramble_put(r: Ring) -> Answer
+pub extern "C" fn waxbramble_put(mut r: Ring) -> Answer
     ensures { result ≡ put_of r }
 {
-    r.put()
+    Answer::of(r.put(), r)
 }
 
 // Where the held sub-buffer stands in ring memory of the given length: from start to end, 0 to 0 if nothing is held.
