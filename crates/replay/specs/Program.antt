@@ -1,8 +1,8 @@
 -- The program on bytes (document 01, "The replay program"): what it makes of its input, byte by byte, and what it prints.
 use Rattle.std.specs.Prelude.{ℕ, cond, List, [], ◌∷◌, ◌++◌, eqb, replicate}
 use Rattle.replay.specs.declared.program.Program.{Program}
-use Rattle.script.specs.Play.{start_play, done_of, done_memory, done_desks}
-use Rattle.lines.specs.Reading.{start_of, take_of, line_in}
+use Rattle.script.specs.Play.{start_play, over, done_of, done_memory, done_desks}
+use Rattle.lines.specs.Reading.{start_of, is_empty_of, take_of, line_in}
 use Rattle.replay.specs.Text.{told_of}
 
 -- ring memory and desks begin as zeros
@@ -18,13 +18,13 @@ lined_of s =
 -- a byte: a line feed ends a line; after a bad line nothing is done
 unfoldable pub fed_of : Program → (b : ℕ) → Program
 fed_of s b =
-    cond s.play.over s
+    cond (over s.play) s
     (cond (eqb b 10) (lined_of s)
     (record { reading = take_of s.reading b; play = s.play; memory = s.memory; desks = s.desks }))
 
 -- what it prints
 unfoldable pub said_of : Program → (b : ℕ) → List ℕ
-said_of s b = cond s.play.over [] (cond (eqb b 10) (told_of (lined_of s).play) [])
+said_of s b = cond (over s.play) [] (cond (eqb b 10) (told_of (lined_of s).play) [])
 
 -- bytes one after the other
 unfoldable pub fed_all : Program → List ℕ → Program
@@ -37,7 +37,7 @@ said_all s (b ∷ bs) = said_of s b ++ said_all (fed_of s b) bs
 
 -- the end of the input: a last line without a line feed counts
 unfoldable pub last_said : Program → List ℕ
-last_said s = cond s.play.over [] (cond (eqb s.reading.word 0) [] (told_of (lined_of s).play))
+last_said s = cond (over s.play) [] (cond (is_empty_of s.reading) [] (told_of (lined_of s).play))
 
 -- an input that is read in parts
 unfoldable pub in_parts : Program → List (List ℕ) → List ℕ

@@ -4,6 +4,7 @@ use Rattle.std.proofs.Common.{append_assoc, append-nil, sym, arith, rules, drop_
 use Rattle.std.proofs.lemmas.Fmt.{decimal_from_appends, length-decimal-le}
 use Rattle.std.specs.Fmt.{decimal}
 use Rattle.script.specs.declared.play.Play.{Play}
+use Rattle.script.specs.Play.{over}
 use Rattle.replay.specs.Text.{decimal_by, decimal_of, end_of, joined, numbers_told, bad_line, told_of}
 
 -- ---- decimal
@@ -42,10 +43,10 @@ joined_none ns front i h = rw (drop_of_length-le ns {i = i} h, append-nil front)
 -- ---- what a line prints
 
 module _ (p : Play) where
-  pub told_bad : p.over ≡ true → told_of p ≡ bad_line
+  pub told_bad : over p ≡ true → told_of p ≡ bad_line
   unfolding told_of
   told_bad e = rw e
 
-  pub told_numbers : p.over ≡ false → told_of p ≡ joined 0 (numbers_told p)
+  pub told_numbers : over p ≡ false → told_of p ≡ joined 0 (numbers_told p)
   unfolding told_of
   told_numbers e = rw e

@@ -23,7 +23,7 @@ fn replay(input: &mut Stdin, program: &mut Program, out: &mut Out) {
         }
         program.feed_all(&text[..n], out);
         io::write_all(1, out.as_bytes());
-        if program.play.over {
+        if program.is_over() {
             return;
         }
     }

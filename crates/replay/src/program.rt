@@ -2,6 +2,7 @@
 ghost use Rattle.std.specs.Prelude.{◌++◌, ◌≡◌, ◌+◌, ◌*◌, ◌≤◌, length};
 ghost use Rattle.arrayvec.specs.ArrayString.{array_string_len};
 ghost use Rattle.replay.specs.Program.{lined_of, fed_of, said_of, fed_all, said_all, last_said, start_program};
+ghost use Rattle.script.specs.Play.{over};
 ghost use Rattle.replay.specs.Text.{told_of};
 ghost use Rattle.replay.specs.declared.text.TheConstants.{LINE, ROOM};
 
@@ -31,6 +32,13 @@ impl Program {
         }
     }
 
+    // Whether a bad line has ended the program.
+    pub(crate) fn is_over(&self) -> bool
+        ensures { result ≡ over self.now.play }
+    {
+        matches!(self.play, Play::Over)
+    }
+
     // Does the line that was read, and prints its answer.
     #[tactic(auto, unfolding(crate::specs::Program::lined_of))]
     fn line(&mut self, out: &mut Out)
@@ -40,9 +48,9 @@ impl Program {
         ensures out_after { out.new.bytes ≡ out.old.bytes ++ told_of self.new.play }
     {
         let line = self.reading.line();
-        self.play = self.play.does(line, &mut self.memory, &mut self.desks);
+        self.play.does(line, &mut self.memory, &mut self.desks);
         self.reading = Reading::start();
-        tell(self.play, out);
+        tell(&self.play, out);
     }
 
     // The next byte of the input. After a bad line nothing is done.
@@ -53,7 +61,7 @@ impl Program {
         ensures program_after { self.new ≡ fed_of self.old b }
         ensures out_after { out.new.bytes ≡ out.old.bytes ++ said_of self.old b }
     {
-        if self.play.over {
+        if self.is_over() {
             return;
         }
         if b == b'\n' {
@@ -81,7 +89,7 @@ impl Program {
         ensures { out.new.bytes ≡ last_said self.old }
     {
         out.clear();
-        if !self.play.over && self.reading.word != 0 {
+        if !self.is_over() && !self.reading.is_empty() {
             self.line(out);
         }
     }

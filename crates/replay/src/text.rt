@@ -5,6 +5,8 @@ ghost use Rattle.replay.specs.Text.{decimal_of, end_of, joined, numbers_told, to
 ghost use Rattle.replay.specs.declared.text.TheConstants.{NUMBER, LINE, ROOM};
 
 use arrayvec::ArrayString;
+use ring::refusal::Refusal;
+use ring::state::Ring;
 use script::play::Play;
 
 // A number prints 11 bytes at most: ten digits, and the byte that ends it.
@@ -52,12 +54,11 @@ fn put_numbers(out: &mut Out, numbers: [u32; 6])
 }
 
 // The numbers that a line prints: answer, write, read, offered, written, lost.
-fn numbers(play: Play) -> [u32; 6]
-    ensures { result ≡ numbers_told play }
+fn numbers(ring: &Ring, answer: Result<(), Refusal>) -> [u32; 6]
+    ensures { result ≡ numbers_told (Play.Going ring.now answer) }
 {
-    let ring = play.ring;
     [
-        play.answer,
+        answer.err().map_or(0, u32::from),
         ring.write.0,
         ring.read.0,
         ring.offered,
@@ -68,14 +69,14 @@ fn numbers(play: Play) -> [u32; 6]
 
 // Puts what the last line prints behind what is there.
 #[tactic(auto, unfolding(crate::specs::Text::told_of))]
-pub(crate) fn tell(play: Play, out: &mut Out)
+pub(crate) fn tell(play: &Play, out: &mut Out)
     requires { array_string_len out.old + LINE ≤ ROOM }
     ensures upper_bound { array_string_len out.new ≤ array_string_len out.old + LINE }
-    ensures out_after { out.new.bytes ≡ out.old.bytes ++ told_of play }
+    ensures out_after { out.new.bytes ≡ out.old.bytes ++ told_of play.now }
 {
-    if play.over {
-        out.push_str("bad line\n");
-        return;
+    match play {
+        Play::Waiting => put_numbers(out, [0; 6]),
+        Play::Going { ring, answer } => put_numbers(out, numbers(ring, *answer)),
+        Play::Over => out.push_str("bad line\n"),
     }
-    put_numbers(out, numbers(play));
 }

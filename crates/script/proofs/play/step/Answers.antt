@@ -1,24 +1,15 @@
 -- `script::play::step` meets its contract.
-use mathlib.Core.Path.{sym}
 use lib.ListN.{length}
-use lib.Seq.{length-take-le}
 use Rattle.ring.specs.Calls.{step_of, step_bytes}
 use Rattle.script.specs.Play.{answer_of, memory_of}
 use Rattle.script.specs.PlayLaws.{lent_call}
-use borrow.Author.Rules.{rules}
 use Rattle.script.proofs.play.step.Goals as goal
-
-pub slice_bounds-step-end-2 : goal.slice_bounds-step-end-2
-slice_bounds-step-end-2 c = sym (length-take-le _ _ (search rules))
-
-pub slice_bounds-step-end-3 : goal.slice_bounds-step-end-3
-slice_bounds-step-end-3 c = sym (length-take-le _ _ (search rules))
 
 pub returns : goal.returns
 unfolding answer_of memory_of
 returns c =
     let a = c.args in
     let e = c.step.ensures in
-    let r = lent_call a.ring a.memory.now a.desks.now _ _ c.lent-b.ensures c.lent-d.ensures
-    (λ x y. step_of a.ring a.p (length x) (length y)) (λ x y. step_bytes a.ring a.p x y) _ _ e.value e.ring_after in
+    let r = lent_call a.ring.now a.memory.now a.desks.now _ _ c.lent-b.ensures c.lent-d.ensures
+    (λ x y. step_of a.ring.now a.p (length x) (length y)) (λ x y. step_bytes a.ring.now a.p x y) _ _ e.value e.ring_after in
     record { value = r.0; memory_after = r.1 }
