@@ -68,6 +68,9 @@ module _ (s : Program) (bs : List ℕ) (i : ℕ) (h : length bs ≤ i) where
   unfolding said_all
   said_none before = rw (drop_of_length-le bs {i = i} h, append-nil before)
 
+-- what a loop over the bytes needs
+pub ruleset byte_by_byte = (fed_on, said_on, fed_none, said_none)
+
 -- ---- the end of the input
 
 module _ (s : Program) where

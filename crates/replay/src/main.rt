@@ -18,12 +18,11 @@ fn replay(input: &mut Stdin, program: &mut Program, out: &mut Out) {
         let n = input.read(&mut text).unwrap_or(0);
         if n == 0 {
             program.finish(out);
-            io::write_all(1, out.as_bytes());
-            return;
+        } else {
+            program.feed_all(&text[..n], out);
         }
-        program.feed_all(&text[..n], out);
         io::write_all(1, out.as_bytes());
-        if program.is_over() {
+        if n == 0 || program.is_over() {
             return;
         }
     }

@@ -43,7 +43,7 @@ impl Program {
     #[tactic(auto, unfolding(crate::specs::Program::lined_of))]
     fn line(&mut self, out: &mut Out)
         requires { array_string_len out.old + LINE ≤ ROOM }
-        ensures used_bound { array_string_len out.new ≤ array_string_len out.old + LINE }
+        ensures upper_bound { array_string_len out.new ≤ array_string_len out.old + LINE }
         ensures program_after { self.new ≡ lined_of self.old }
         ensures out_after { out.new.bytes ≡ out.old.bytes ++ told_of self.new.play }
     {
@@ -57,7 +57,7 @@ impl Program {
     #[tactic(auto, unfolding(crate::specs::Program::fed_of, crate::specs::Program::said_of))]
     fn feed(&mut self, b: u8, out: &mut Out)
         requires { array_string_len out.old + LINE ≤ ROOM }
-        ensures used_bound { array_string_len out.new ≤ array_string_len out.old + LINE }
+        ensures upper_bound { array_string_len out.new ≤ array_string_len out.old + LINE }
         ensures program_after { self.new ≡ fed_of self.old b }
         ensures out_after { out.new.bytes ≡ out.old.bytes ++ said_of self.old b }
     {
@@ -71,7 +71,7 @@ impl Program {
     }
 
     // A part of the input: does what each byte asks for, and fills out with what is to be printed.
-    #[tactic(auto, using(crate::specs::ProgramLaws::fed_on, crate::specs::ProgramLaws::said_on, crate::specs::ProgramLaws::fed_none, crate::specs::ProgramLaws::said_none))]
+    #[tactic(auto, using(crate::specs::ProgramLaws::byte_by_byte))]
     pub(crate) fn feed_all(&mut self, text: &[u8], out: &mut Out)
         requires { LINE * length text.now ≤ ROOM }
         ensures program_after { self.new ≡ fed_all self.old text.now }

@@ -75,7 +75,7 @@ over Waiting = false
 over (Going r answer) = false
 over Over = true
 
--- what a number answers: 0 is done
+-- what was answered where document 01 has a number: 0 for done, or the refusal's
 abbrev pub refusals : List Refusal
 refusals = NotAllowed ∷ OffStart ∷ NoProducer ∷ NotIdle ∷ TooLong ∷ Idle ∷ NotReady ∷ Holding ∷ NotHolding ∷ NoRow ∷ []
 

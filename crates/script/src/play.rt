@@ -36,53 +36,29 @@ fn payload_of(kind: u8) -> [u8; 65536]
     [kind; 65536]
 }
 
-// Offers an event whose payload is n bytes equal to its kind.
-fn offer(ring: &mut Ring, p: u32, kind: u8, n: u16, desks: &mut [u8]) -> Result<(), Refusal>
-    ensures value { told result ring.new ≡ answer_of ring.old (Line.Offer p kind n) [] desks.old }
-    ensures desks_after { desks.new ≡ desks_of ring.old (Line.Offer p kind n) desks.old }
-{
-    let d = lent(ring.producers, ring.size, desks.len());
-    let payload = payload_of(kind);
-    let l = n as usize;
-    ring.offer(p, kind, &payload[..l], &mut desks[..d])
-}
-
-// One step of producer p.
-fn step(ring: &mut Ring, p: u32, memory: &mut [u8], desks: &[u8]) -> Result<(), Refusal>
-    ensures value { told result ring.new ≡ answer_of ring.old (Line.Step p) memory.old desks.now }
-    ensures memory_after { memory.new ≡ memory_of ring.old (Line.Step p) memory.old desks.now }
-{
-    let b = lent(ring.size, ring.parts, memory.len());
-    let d = lent(ring.producers, ring.size, desks.len());
-    ring.step(p, &mut memory[..b], &desks[..d])
-}
-
-// Steps of producer p until it is idle.
-fn run(ring: &mut Ring, p: u32, memory: &mut [u8], desks: &[u8]) -> Result<(), Refusal>
-    ensures value { told result ring.new ≡ answer_of ring.old (Line.Run p) memory.old desks.now }
-    ensures memory_after { memory.new ≡ memory_of ring.old (Line.Run p) memory.old desks.now }
-{
-    let b = lent(ring.size, ring.parts, memory.len());
-    let d = lent(ring.producers, ring.size, desks.len());
-    runs::run::run(ring, p, &mut memory[..b], &desks[..d])
-}
-
-// Makes the call of a line of a ring. A new makes another ring; where it is refused, the old one stays.
+// Makes the call of a line, with as much memory as the ring asks for. A new makes another ring; where it is refused, the old one stays.
 #[tactic(auto, unfolding(crate::specs::Play::answer_of, crate::specs::Play::memory_of, crate::specs::Play::desks_of))]
 fn call(ring: &mut Ring, line: Line, memory: &mut [u8], desks: &mut [u8]) -> Result<(), Refusal>
     ensures value { told result ring.new ≡ kept_of ring.old (answer_of ring.old line memory.old desks.old) }
     ensures memory_after { memory.new ≡ memory_of ring.old line memory.old desks.old }
     ensures desks_after { desks.new ≡ desks_of ring.old line desks.old }
 {
+    let b = lent(ring.size, ring.parts, memory.len());
+    let d = lent(ring.producers, ring.size, desks.len());
+    let memory = &mut memory[..b];
+    let desks = &mut desks[..d];
     match line {
         Line::New(size, parts, producers, start) => {
             *ring = Ring::fresh(size, parts, producers, Position(start))?;
             Ok(())
         }
-        Line::Offer(p, kind, n) => offer(ring, p, kind, n, desks),
+        Line::Offer(p, kind, n) => {
+            let payload = payload_of(kind);
+            ring.offer(p, kind, &payload[..n as usize], desks)
+        }
         Line::Flush(p) => ring.flush(p),
-        Line::Step(p) => step(ring, p, memory, desks),
-        Line::Run(p) => run(ring, p, memory, desks),
+        Line::Step(p) => ring.step(p, memory, desks),
+        Line::Run(p) => runs::run::run(ring, p, memory, desks),
         Line::Get => ring.get(),
         Line::Put => ring.put(),
     }
