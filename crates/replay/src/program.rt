@@ -1,6 +1,5 @@
 // The program on bytes: what it makes of its input, byte by byte, and what it prints.
-ghost use Rattle.std.specs.Prelude.{◌++◌, ◌≡◌, ◌+◌, ◌*◌, ◌≤◌, length};
-ghost use Rattle.arrayvec.specs.ArrayString.{array_string_len};
+ghost use Rattle.std.specs.Prelude.{[], ◌≡◌, ◌*◌, ◌≤◌, if◌then◌else◌, length};
 ghost use Rattle.replay.specs.Program.{lined_of, fed_of, said_of, fed_all, said_all, last_said, start_program};
 ghost use Rattle.script.specs.Play.{over};
 ghost use Rattle.replay.specs.Text.{told_of};
@@ -12,7 +11,7 @@ use script::play::Play;
 
 // The line that is being read, the ring and what was answered last, and the buffers for ring memory and desks.
 #[derive(Drop)]
-pub(crate) struct Program {
+pub struct Program {
     pub reading: Reading,
     pub play: Play,
     pub memory: [u8; 65536],
@@ -21,7 +20,7 @@ pub(crate) struct Program {
 
 impl Program {
     // Before the first byte. Ring memory and desks begin as zeros.
-    pub(crate) fn start() -> Program
+    pub fn start() -> Program
         ensures { result ≡ start_program }
     {
         Program {
@@ -39,35 +38,31 @@ impl Program {
         matches!(self.play, Play::Over)
     }
 
-    // Does the line that was read, and prints its answer.
+    // Does the line that was read.
     #[tactic(auto, unfolding(crate::specs::Program::lined_of))]
-    fn line(&mut self, out: &mut Out)
-        requires { array_string_len out.old + LINE ≤ ROOM }
-        ensures upper_bound { array_string_len out.new ≤ array_string_len out.old + LINE }
-        ensures program_after { self.new ≡ lined_of self.old }
-        ensures out_after { out.new.bytes ≡ out.old.bytes ++ told_of self.new.play }
+    fn line(&mut self)
+        ensures { self.new ≡ lined_of self.old }
     {
         let line = self.reading.line();
         self.play.does(line, &mut self.memory, &mut self.desks);
         self.reading = Reading::start();
-        tell(&self.play, out);
     }
 
-    // The next byte of the input. After a bad line nothing is done.
+    // The next byte of the input, and whether it ended a line, which prints its answer then. After a bad line nothing is done.
     #[tactic(auto, unfolding(crate::specs::Program::fed_of, crate::specs::Program::said_of))]
-    fn feed(&mut self, b: u8, out: &mut Out)
-        requires { array_string_len out.old + LINE ≤ ROOM }
-        ensures upper_bound { array_string_len out.new ≤ array_string_len out.old + LINE }
+    fn feed(&mut self, b: u8) -> bool
         ensures program_after { self.new ≡ fed_of self.old b }
-        ensures out_after { out.new.bytes ≡ out.old.bytes ++ said_of self.old b }
+        ensures printed { said_of self.old b ≡ if result then told_of self.new.play else [] }
     {
         if self.is_over() {
-            return;
+            return false;
         }
-        if b == b'\n' {
-            return self.line(out);
+        if b != b'\n' {
+            self.reading = self.reading.take(b);
+            return false;
         }
-        self.reading = self.reading.take(b);
+        self.line();
+        true
     }
 
     // A part of the input: does what each byte asks for, and fills out with what is to be printed.
@@ -79,7 +74,9 @@ impl Program {
     {
         out.clear();
         for &b in text {
-            self.feed(b, out);
+            if self.feed(b) {
+                tell(&self.play, out);
+            }
         }
     }
 
@@ -90,7 +87,8 @@ impl Program {
     {
         out.clear();
         if !self.is_over() && !self.reading.is_empty() {
-            self.line(out);
+            self.line();
+            tell(&self.play, out);
         }
     }
 }

@@ -15,10 +15,11 @@ pub(crate) const NUMBER: usize = 11;
 // A line prints 66 bytes at most: six numbers.
 pub(crate) const LINE: usize = 66;
 
-// How many bytes of the input are read at a time, and the most that they print: each of them may end a line.
+// How many bytes of the input are read at a time.
 pub(crate) const PART: usize = 990;
 
-pub(crate) const ROOM: usize = 65340;
+// What they print at most: each of them may end a line.
+pub(crate) const ROOM: usize = PART * LINE;
 
 // What is to be printed.
 pub(crate) type Out = ArrayString<ROOM>;
