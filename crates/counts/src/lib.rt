@@ -7,6 +7,7 @@
 
 pub mod commit;
 pub mod divide;
+pub mod lap;
 pub mod place;
 pub mod position;
 pub mod shape;
