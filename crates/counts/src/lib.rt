@@ -6,6 +6,7 @@
 #![tactic(auto)]
 
 pub mod commit;
+pub mod count;
 pub mod divide;
 pub mod lap;
 pub mod place;

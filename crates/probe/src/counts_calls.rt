@@ -6,6 +6,7 @@ ghost use Rattle.counts.specs.Position.{position, plus_of, since_of, offset_of, 
 ghost use Rattle.counts.specs.Shape.{size_of, parts_of, producers_of, shape_of};
 
 use counts::commit::Commit;
+use counts::count::Count;
 use counts::lap::Lap;
 use counts::place::Place;
 use counts::position::Position;
