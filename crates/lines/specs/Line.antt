@@ -1,8 +1,8 @@
 -- Which text is which line (document 01, "The replay program"): `new S N P start`, `offer p kind L`, `flush p`, `step p`, `run p`,
 -- `get`, `put`. Fields are parted by one space, numbers are decimal; kind is at most 255, L at most 65,535, others at most 4,294,967,295.
-use Rattle.std.specs.Prelude.{ℕ, ◌+◌, ◌-◌, ◌*◌, Bool, true, false, cond, List, [], ◌∷◌, eqb, ltb, leb, get_or}
+use Rattle.std.specs.Prelude.{ℕ, ◌+◌, ◌-◌, ◌*◌, Bool, true, false, cond, List, [], ◌∷◌, eqb, ltb, leb, get_or, Option, Some, None}
 use Rattle.lines.specs.declared.line.Line.{Line}
-use Rattle.lines.specs.declared.line.Line.TheVariants.{New, Offer, Flush, Step, Run, Get, Put, Bad}
+use Rattle.lines.specs.declared.line.Line.TheVariants.{New, Offer, Flush, Step, Run, Get, Put}
 
 -- ---- fields
 
@@ -82,24 +82,24 @@ word_get = 103 ∷ 101 ∷ 116 ∷ []
 abbrev pub word_put : List ℕ
 word_put = 112 ∷ 117 ∷ 116 ∷ []
 
-unfoldable pub form_of : (word : List ℕ) → List (List ℕ) → Line
+unfoldable pub form_of : (word : List ℕ) → List (List ℕ) → Option Line
 form_of word fs =
     cond (same word word_new)
-    (cond (fit (most ∷ most ∷ most ∷ most ∷ []) fs) (New (number 0 fs) (number 1 fs) (number 2 fs) (number 3 fs)) Bad)
+    (cond (fit (most ∷ most ∷ most ∷ most ∷ []) fs) (Some (New (number 0 fs) (number 1 fs) (number 2 fs) (number 3 fs))) None)
     (cond (same word word_offer)
-    (cond (fit (most ∷ 255 ∷ 65535 ∷ []) fs) (Offer (number 0 fs) (number 1 fs) (number 2 fs)) Bad)
+    (cond (fit (most ∷ 255 ∷ 65535 ∷ []) fs) (Some (Offer (number 0 fs) (number 1 fs) (number 2 fs))) None)
     (cond (same word word_flush)
-    (cond (fit (most ∷ []) fs) (Flush (number 0 fs)) Bad)
+    (cond (fit (most ∷ []) fs) (Some (Flush (number 0 fs))) None)
     (cond (same word word_step)
-    (cond (fit (most ∷ []) fs) (Step (number 0 fs)) Bad)
+    (cond (fit (most ∷ []) fs) (Some (Step (number 0 fs))) None)
     (cond (same word word_run)
-    (cond (fit (most ∷ []) fs) (Run (number 0 fs)) Bad)
+    (cond (fit (most ∷ []) fs) (Some (Run (number 0 fs))) None)
     (cond (same word word_get)
-    (cond (fit [] fs) Get Bad)
+    (cond (fit [] fs) (Some Get) None)
     (cond (same word word_put)
-    (cond (fit [] fs) Put Bad)
-    Bad))))))
+    (cond (fit [] fs) (Some Put) None)
+    None))))))
 
 -- the line that a text is
-unfoldable pub line_of : List ℕ → Line
+unfoldable pub line_of : List ℕ → Option Line
 line_of text = form_of (first_field text) (later_fields text)

@@ -1,98 +1,97 @@
 -- Reading a line byte by byte: what the bytes so far come to, and what the next byte makes of that.
-use Rattle.std.specs.Prelude.{ℕ, ◌+◌, ◌-◌, ◌*◌, ◌/◌, ◌%◌, Bool, true, false, cond, List, [], ◌∷◌, eqb, ltb, leb}
+use Rattle.std.specs.Prelude.{ℕ, ◌+◌, ◌-◌, ◌*◌, Bool, true, false, cond, List, [], ◌∷◌, eqb, ltb, leb, length, Option, Some, None, slice_get, slice_index}
+use Rattle.std.specs.Option.{unwrap_or}
 use Rattle.lines.specs.declared.line.Line.{Line}
-use Rattle.lines.specs.declared.line.Line.TheVariants.{New, Offer, Flush, Step, Run, Get, Put, Bad}
+use Rattle.lines.specs.declared.line.Line.TheVariants as line
+use Rattle.lines.specs.declared.word.Word.{Word}
+use Rattle.lines.specs.declared.word.Word.TheVariants.{New, Offer, Flush, Step, Run, Get, Put}
 use Rattle.lines.specs.declared.reading.Reading.{Reading}
-
-abbrev pub reading_of : (word rest count : ℕ) (filled : Bool) (a b c value : ℕ) → Reading
-reading_of word rest count filled a b c value =
-    record { word = word; rest = rest; count = count; filled = filled; a = a; b = b; c = c; value = value }
+use Rattle.lines.specs.declared.reading.Reading.TheVariants.{Start, Letters, Numbers, Bad}
+use Rattle.lines.specs.Line.{is_digit}
+use Rattle.lines.specs.Word.{word_from, text_of, numbers_of, limit_of}
 
 -- before the first byte
 abbrev pub start_of : Reading
-start_of = reading_of 0 0 0 false 0 0 0 0
+start_of = Start
 
--- whatever follows, the line is bad
-abbrev pub bad_reading : Reading
-bad_reading = reading_of 8 0 0 false 0 0 0 0
-
--- letters as one number to base 256, the first one lowest
-unfoldable pub packed : List ℕ → ℕ
-packed [] = 0
-packed (b ∷ bs) = b + 256 * packed bs
+-- no byte of the line was read
+abbrev pub is_empty_of : Reading → Bool
+is_empty_of Start = true
+is_empty_of r = false
 
 -- ---- a byte of the word
 
-abbrev pub begins_of : (word rest : ℕ) → Reading
-begins_of word rest = reading_of word rest 0 false 0 0 0 0
+-- a first letter, of a word or of none
+abbrev pub begun_of : Option Word → Reading
+begun_of None = Bad
+begun_of (Some word) = Letters word 1
 
--- n, o, f, s, r, g, p, and the letters that follow
 unfoldable pub first_of : (b : ℕ) → Reading
-first_of b =
-    cond (eqb b 110) (begins_of 1 (packed (101 ∷ 119 ∷ [])))
-    (cond (eqb b 111) (begins_of 2 (packed (102 ∷ 102 ∷ 101 ∷ 114 ∷ [])))
-    (cond (eqb b 102) (begins_of 3 (packed (108 ∷ 117 ∷ 115 ∷ 104 ∷ [])))
-    (cond (eqb b 115) (begins_of 4 (packed (116 ∷ 101 ∷ 112 ∷ [])))
-    (cond (eqb b 114) (begins_of 5 (packed (117 ∷ 110 ∷ [])))
-    (cond (eqb b 103) (begins_of 6 (packed (101 ∷ 116 ∷ [])))
-    (cond (eqb b 112) (begins_of 7 (packed (117 ∷ 116 ∷ [])))
-    bad_reading))))))
+first_of b = begun_of (word_from b)
 
-unfoldable pub letter_of : Reading → (b : ℕ) → Reading
-letter_of r b =
-    cond (eqb r.word 0) (first_of b)
-    (cond r.filled bad_reading
-    (cond (eqb (r.rest % 256) b)
-    (reading_of r.word (r.rest / 256) 0 (eqb (r.rest / 256) 0) 0 0 0 0)
-    bad_reading))
+-- whether a letter is the next one, if there is one
+abbrev pub is_next : Option ℕ → (b : ℕ) → Bool
+is_next None b = false
+is_next (Some letter) b = eqb letter b
+
+unfoldable pub letter_of : Word → (read b : ℕ) → Reading
+letter_of word read b = cond (is_next (slice_get (text_of word) read) b) (Letters word (read + 1)) Bad
 
 -- ---- a byte of a number
 
--- how many numbers follow a word
-unfoldable pub numbers_of : (word : ℕ) → ℕ
-numbers_of word =
-    cond (eqb word 1) 4 (cond (eqb word 2) 3 (cond (eqb word 3) 1 (cond (eqb word 4) 1 (cond (eqb word 5) 1 0))))
+-- a digit more, if the number stays within its limit
+unfoldable pub with_digit_of : (number b limit : ℕ) → Option ℕ
+with_digit_of number b limit =
+    cond (is_digit b) (cond (leb (number * 10 + (b - 48)) limit) (Some (number * 10 + (b - 48))) None) None
 
--- the largest number allowed at a place behind a word
-unfoldable pub limit_of : (word count : ℕ) → ℕ
-limit_of word count = cond (eqb word 2) (cond (eqb count 2) 255 (cond (eqb count 3) 65535 4294967295)) 4294967295
+-- the number being read, if it is one
+abbrev pub number_or_bad : Word → (place : ℕ) → Option ℕ → (before : List ℕ) → Reading
+number_or_bad word place None before = Bad
+number_or_bad word place (Some value) before = Numbers word place (Some value) before
 
-unfoldable pub digit_of : Reading → (b : ℕ) → Reading
-digit_of r b =
-    cond (ltb b 48) bad_reading
-    (cond (ltb 57 b) bad_reading
-    (cond (ltb (limit_of r.word r.count) (r.value * 10 + (b - 48))) bad_reading
-    (reading_of r.word r.rest r.count true r.a r.b r.c (r.value * 10 + (b - 48)))))
+-- ---- a space
+
+-- behind the word or a number, so many numbers being read: the next one begins, if the word has more
+unfoldable pub next_number_of : Word → (read : ℕ) → (before : List ℕ) → Reading
+next_number_of word read before = cond (ltb read (numbers_of word)) (Numbers word (read + 1) None before) Bad
+
+unfoldable pub space_of : Reading → Reading
+space_of (Letters word read) = cond (eqb read (length (text_of word))) (next_number_of word 0 (0 ∷ 0 ∷ 0 ∷ [])) Bad
+space_of (Numbers word place (Some last) before) = next_number_of word place (slice_index before 1 ∷ slice_index before 2 ∷ last ∷ [])
+space_of r = Bad
 
 -- ---- any byte, and the end
 
-unfoldable pub space_of : Reading → Reading
-space_of r =
-    cond r.filled
-    (cond (leb (numbers_of r.word) r.count) bad_reading
-    (reading_of r.word r.rest (r.count + 1) false r.b r.c r.value 0))
-    bad_reading
+-- a byte that is no space
+unfoldable pub byte_of : Reading → (b : ℕ) → Reading
+byte_of Start b = first_of b
+byte_of (Letters word read) b = letter_of word read b
+byte_of (Numbers word place number before) b = number_or_bad word place (with_digit_of (unwrap_or number 0) b (limit_of word place)) before
+byte_of Bad b = Bad
 
 unfoldable pub take_of : Reading → (b : ℕ) → Reading
-take_of r b =
-    cond (eqb r.word 8) bad_reading
-    (cond (eqb b 32) (space_of r)
-    (cond (eqb r.count 0) (letter_of r b) (digit_of r b)))
+take_of r b = cond (eqb b 32) (space_of r) (byte_of r b)
+
+-- the line of a word that no number follows
+abbrev pub bare_of : Word → Option Line
+bare_of Get = Some line.Get
+bare_of Put = Some line.Put
+bare_of word = None
 
 -- the line of a word and its numbers
-unfoldable pub made_of : (word a b c value : ℕ) → Line
-made_of word a b c value =
-    cond (eqb word 1) (New a b c value)
-    (cond (eqb word 2) (Offer b (c % 256) (value % 65536))
-    (cond (eqb word 3) (Flush value)
-    (cond (eqb word 4) (Step value)
-    (cond (eqb word 5) (Run value)
-    (cond (eqb word 6) Get
-    (cond (eqb word 7) Put
-    Bad))))))
+abbrev pub made_of : Word → (before : List ℕ) → (last : ℕ) → Option Line
+made_of New before last = Some (line.New (slice_index before 0) (slice_index before 1) (slice_index before 2) last)
+made_of Offer before last =
+    cond (leb (slice_index before 2) 255) (cond (leb last 65535) (Some (line.Offer (slice_index before 1) (slice_index before 2) last)) None) None
+made_of Flush before last = Some (line.Flush last)
+made_of Step before last = Some (line.Step last)
+made_of Run before last = Some (line.Run last)
+made_of word before last = None
 
-unfoldable pub line_in : Reading → Line
-line_in r = cond r.filled (cond (eqb r.count (numbers_of r.word)) (made_of r.word r.a r.b r.c r.value) Bad) Bad
+unfoldable pub line_in : Reading → Option Line
+line_in (Letters word read) = cond (eqb read (length (text_of word))) (bare_of word) None
+line_in (Numbers word place (Some last) before) = cond (eqb place (numbers_of word)) (made_of word before last) None
+line_in r = None
 
 -- bytes one after the other
 unfoldable pub take_all : Reading → List ℕ → Reading

@@ -1,5 +1,5 @@
-// What a line of the replay program asks for; Bad if it is of none of the forms.
-#[derive(Clone, Copy)]
+// What a line of the replay program asks for.
+#[derive(Clone, Copy, Debug, PartialEq, Eq)]
 pub enum Line {
     New(u32, u32, u32, u32),
     Offer(u32, u8, u16),
@@ -8,5 +8,4 @@ pub enum Line {
     Run(u32),
     Get,
     Put,
-    Bad,
 }

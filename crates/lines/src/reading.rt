@@ -1,93 +1,112 @@
 // Reading a line byte by byte, so that no line has to be held: a number may have any number of leading zeros.
 ghost use Rattle.std.specs.Prelude.{◌≡◌};
-ghost use Rattle.lines.specs.Reading.{begins_of, start_of, bad_reading, first_of, letter_of, numbers_of, limit_of, space_of, digit_of};
-ghost use Rattle.lines.specs.Reading.{take_of, line_in};
+ghost use Rattle.lines.specs.Reading.{start_of, is_empty_of, first_of, letter_of, with_digit_of, next_number_of, space_of, take_of};
+ghost use Rattle.lines.specs.Reading.{bare_of, made_of, line_in};
 
 use super::line::Line;
+use super::word::Word;
 
-// What the bytes of a line so far come to. word: 0 before the first letter, then the word that it begins, 1 to 7 in document 01's
-// order, or 8 if the line is bad. rest: the letters of the word that are to come, as one number to base 256, the next one lowest.
-// count: how many numbers were begun. filled: whether the word or number being read is whole. value: the number being read; a, b, c:
-// those before it.
-#[derive(Clone, Copy)]
-pub struct Reading {
-    pub word: u32,
-    pub rest: u32,
-    pub count: u32,
-    pub filled: bool,
-    pub a: u32,
-    pub b: u32,
-    pub c: u32,
-    pub value: u32,
+// What the bytes of a line so far come to.
+#[derive(Clone, Copy, Debug, PartialEq, Eq)]
+pub enum Reading {
+    // There are none.
+    Start,
+    // They are the first letters of a word, and read says how many.
+    Letters {
+        word: Word,
+        read: usize,
+    },
+    // They are a word and numbers behind it: the one at place is being read, the first being at 1. number: what its digits come to,
+    // None before the first digit. before: the three numbers before it, the newest last, and 0 where there are fewer.
+    Numbers {
+        word: Word,
+        place: usize,
+        number: Option<u32>,
+        before: [u32; 3],
+    },
+    // Whatever follows, the line is bad.
+    Bad,
 }
 
-// A word whose first letter is read, and the letters that are to come.
-fn begins(word: u32, rest: u32) -> Reading
-    ensures { result ≡ begins_of word rest }
-{
-    Reading {
-        word: word,
-        rest: rest,
-        count: 0,
-        filled: false,
-        a: 0,
-        b: 0,
-        c: 0,
-        value: 0,
-    }
-}
-
-fn bad() -> Reading
-    ensures { result ≡ bad_reading }
-{
-    begins(8, 0)
-}
-
-// The word that a first letter begins: new, offer, flush, step, run, get, put.
-#[tactic(auto, unfolding(crate::specs::Reading::first_of, crate::specs::Reading::packed))]
+// The first byte of a line: a word's first letter, or the line is bad.
+#[tactic(auto, unfolding(crate::specs::Reading::first_of))]
 fn first(b: u8) -> Reading
     ensures { result ≡ first_of b }
 {
-    match b {
-        b'n' => begins(1, 0x7765),
-        b'o' => begins(2, 0x72656666),
-        b'f' => begins(3, 0x6873756c),
-        b's' => begins(4, 0x706574),
-        b'r' => begins(5, 0x6e75),
-        b'g' => begins(6, 0x7465),
-        b'p' => begins(7, 0x7475),
-        _ => bad(),
+    match Word::from_first(b) {
+        Some(word) => Reading::Letters { word, read: 1 },
+        None => Reading::Bad,
     }
 }
 
-// How many numbers follow a word.
-#[tactic(auto, unfolding(crate::specs::Reading::numbers_of))]
-fn numbers(word: u32) -> u32
-    ensures { result ≡ numbers_of word }
+// A further byte of a word: its next letter, or the line is bad.
+#[tactic(auto, unfolding(crate::specs::Reading::letter_of))]
+fn letter(word: Word, read: usize, b: u8) -> Reading
+    ensures { result ≡ letter_of word read b }
+{
+    match word.text().get(read) {
+        Some(&next) if next == b => Reading::Letters {
+            word,
+            read: read + 1,
+        },
+        _ => Reading::Bad,
+    }
+}
+
+// A number with a digit more. None where b is no digit, or where the number is past its limit.
+#[tactic(auto, unfolding(crate::specs::Reading::with_digit_of))]
+fn with_digit(number: u32, b: u8, limit: u32) -> Option<u32>
+    ensures { result ≡ with_digit_of number b limit }
+{
+    if !b.is_ascii_digit() {
+        return None;
+    }
+    let value = number.checked_mul(10)?.checked_add(u32::from(b - b'0'))?;
+    (value <= limit).then_some(value)
+}
+
+// A space behind the word or behind a number, so many numbers being read: the next number begins, or the line is bad if the word has
+// no more.
+#[tactic(auto, unfolding(crate::specs::Reading::next_number_of))]
+fn next_number(word: Word, read: usize, before: [u32; 3]) -> Reading
+    ensures { result ≡ next_number_of word read before }
+{
+    if read < word.numbers() {
+        Reading::Numbers {
+            word,
+            place: read + 1,
+            number: None,
+            before,
+        }
+    } else {
+        Reading::Bad
+    }
+}
+
+// A line of a word that no number follows.
+fn bare(word: Word) -> Option<Line>
+    ensures { result ≡ bare_of word }
 {
     match word {
-        1 => 4,
-        2 => 3,
-        3 => 1,
-        4 => 1,
-        5 => 1,
-        _ => 0,
+        Word::Get => Some(Line::Get),
+        Word::Put => Some(Line::Put),
+        _ => None,
     }
 }
 
-// The largest number allowed at a place behind a word: kind 255, L 65,535, others 4,294,967,295.
-fn limit(word: u32, count: u32) -> u32
-    ensures { result ≡ limit_of word count }
+// A line of a word and its numbers: the last one, and the three before it.
+fn made(word: Word, before: [u32; 3], last: u32) -> Option<Line>
+    ensures { result ≡ made_of word before last }
 {
-    if word == 2 {
-        if count == 2 {
-            return 255;
-        }
-        if count == 3 {
-            return 65535;
-        }
+    let [a, b, c] = before;
+    match word {
+        Word::New => Some(Line::New(a, b, c, last)),
+        Word::Offer => Some(Line::Offer(b, u8::try_from(c).ok()?, u16::try_from(last).ok()?)),
+        Word::Flush => Some(Line::Flush(last)),
+        Word::Step => Some(Line::Step(last)),
+        Word::Run => Some(Line::Run(last)),
+        Word::Get | Word::Put => None,
     }
-    4294967295
 }
 
 impl Reading {
@@ -95,121 +114,81 @@ impl Reading {
     pub fn start() -> Reading
         ensures { result ≡ start_of }
     {
-        begins(0, 0)
+        Reading::Start
     }
 
-    // A byte of the word: its next letter, or the line is bad.
-    fn letter(self, b: u8) -> Reading
-        ensures { result ≡ letter_of self b }
+    // Whether no byte of the line was read.
+    pub fn is_empty(self) -> bool
+        ensures { result ≡ is_empty_of self }
     {
-        if self.word == 0 {
-            return first(b);
-        }
-        if self.filled {
-            return bad();
-        }
-        if self.rest % 256 != b as u32 {
-            return bad();
-        }
-        let rest = self.rest / 256;
-        Reading {
-            word: self.word,
-            rest: rest,
-            count: 0,
-            filled: rest == 0,
-            a: 0,
-            b: 0,
-            c: 0,
-            value: 0,
-        }
-    }
-
-    // A byte of a number: a digit that leaves it within its limit, or the line is bad.
-    #[tactic(auto, unfolding(crate::specs::Reading::digit_of))]
-    fn digit(self, b: u8) -> Reading
-        ensures { result ≡ digit_of self b }
-    {
-        if b < b'0' {
-            return bad();
-        }
-        if b'9' < b {
-            return bad();
-        }
-        let value = (self.value as u64) * 10 + (b - b'0') as u64;
-        if (limit(self.word, self.count) as u64) < value {
-            return bad();
-        }
-        Reading {
-            word: self.word,
-            rest: self.rest,
-            count: self.count,
-            filled: true,
-            a: self.a,
-            b: self.b,
-            c: self.c,
-            value: value as u32,
-        }
+        matches!(self, Reading::Start)
     }
 
     // A space: behind a whole word or number, before a number, or the line is bad.
+    #[tactic(auto, unfolding(crate::specs::Reading::space_of))]
     fn space(self) -> Reading
         ensures { result ≡ space_of self }
     {
-        if !self.filled {
-            return bad();
-        }
-        if numbers(self.word) <= self.count {
-            return bad();
-        }
-        Reading {
-            word: self.word,
-            rest: self.rest,
-            count: self.count + 1,
-            filled: false,
-            a: self.b,
-            b: self.c,
-            c: self.value,
-            value: 0,
+        match self {
+            Reading::Letters { word, read } if read == word.text().len() => {
+                next_number(word, 0, [0; 3])
+            }
+            Reading::Numbers {
+                word,
+                place,
+                number: Some(last),
+                before,
+            } => {
+                let [_, b, c] = before;
+                next_number(word, place, [b, c, last])
+            }
+            _ => Reading::Bad,
         }
     }
 
     // The next byte of a line.
+    #[tactic(auto, unfolding(crate::specs::Reading::take_of, crate::specs::Reading::byte_of))]
     pub fn take(self, b: u8) -> Reading
         ensures { result ≡ take_of self b }
     {
-        if self.word == 8 {
-            return bad();
-        }
         if b == b' ' {
             return self.space();
         }
-        if self.count == 0 {
-            return self.letter(b);
+        match self {
+            Reading::Start => first(b),
+            Reading::Letters { word, read } => letter(word, read, b),
+            Reading::Numbers {
+                word,
+                place,
+                number,
+                before,
+            } => match with_digit(number.unwrap_or(0), b, word.limit(place)) {
+                None => Reading::Bad,
+                number => Reading::Numbers {
+                    word,
+                    place,
+                    number,
+                    before,
+                },
+            },
+            Reading::Bad => Reading::Bad,
         }
-        self.digit(b)
     }
 
-    // The line, its last byte being read.
-    #[tactic(auto, unfolding(crate::specs::Reading::line_in, crate::specs::Reading::made_of))]
-    pub fn line(self) -> Line
+    // The line, its last byte being read. None for a bad line.
+    #[tactic(auto, unfolding(crate::specs::Reading::line_in))]
+    pub fn line(self) -> Option<Line>
         ensures { result ≡ line_in self }
     {
-        if !self.filled {
-            return Line::Bad;
-        }
-        if self.count != numbers(self.word) {
-            return Line::Bad;
-        }
-        let word = self.word;
-        match word {
-            1 => Line::New(self.a, self.b, self.c, self.value),
-            2 => Line::Offer(self.b, (self.c % 256) as u8, (self.value % 65536) as u16),
-            3 => Line::Flush(self.value),
-            4 => Line::Step(self.value),
-            5 => Line::Run(self.value),
-            6 => Line::Get,
-            7 => Line::Put,
-            _ => Line::Bad,
+        match self {
+            Reading::Letters { word, read } if read == word.text().len() => bare(word),
+            Reading::Numbers {
+                word,
+                place,
+                number: Some(last),
+                before,
+            } if place == word.numbers() => made(word, before, last),
+            _ => None,
         }
     }
 }
