@@ -5,6 +5,7 @@
 
 ghost use Rattle.std.specs.Prelude.{◌≤◌};
 
+use counts::count::Count;
 use counts::position::Position;
 use ring::state::Ring;
 
