@@ -28,7 +28,7 @@ fn event(ring: &mut Ring, p: u32, payload: &[u8], memory: &mut [u8], desks: &mut
         return;
     }
     for _ in 0..2000 {
-        if ring.producer[i].phase == 0 || ring.step(p, memory, desks).is_err() {
+        if ring.producer[i].is_idle() || ring.step(p, memory, desks).is_err() {
             return;
         }
     }
