@@ -5,81 +5,47 @@
 
 ghost use Rattle.std.specs.Prelude.{◌≤◌};
 
+use counts::count::Count;
 use counts::position::Position;
 use ring::state::Ring;
 
-// A number read from a text, and where the text goes on.
-#[derive(Clone, Copy)]
-struct Number {
-    value: u32,
-    next: usize,
-}
-
-// The decimal number at a place of a text, and the place behind the character that ends it.
-fn number_at(text: &[u8], from: usize) -> Number {
+// The decimal number that a text begins with, and the text behind the character that ends it.
+fn number(text: &[u8]) -> (u32, &[u8]) {
     let mut value: u32 = 0;
-    let mut i = from;
-    while i < text.len() {
-        let b = text[i];
-        i += 1;
+    for (i, &b) in text.iter().enumerate() {
         if b < b'0' {
-            return Number {
-                value: value,
-                next: i,
-            };
+            return (value, &text[i + 1..]);
         }
         value = value % 100000000 * 10 + ((b - b'0') % 10) as u32;
     }
-    Number {
-        value: value,
-        next: i,
-    }
+    (value, &text[..0])
 }
 
 // One event: an offer, and steps until the producer is idle.
-fn event(start: Ring, p: u32, payload: &[u8], ring: &mut [u8], desks: &mut [u8]) -> Ring {
+fn event(ring: &mut Ring, p: u32, payload: &[u8], memory: &mut [u8], desks: &mut [u8]) {
     let i = p as usize;
-    if 8 <= i {
-        return start;
+    if 8 <= i || ring.offer(p, 7, payload, desks).is_err() {
+        return;
     }
-    let offered = start.offer(p, 7, payload, desks);
-    let mut now = offered.ring;
-    let mut left: u32 = 2000;
-    while 0 < left {
-        let q = now.producer[i];
-        if q.phase == 0 {
-            return now;
+    for _ in 0..2000 {
+        if ring.producer[i].is_idle() || ring.step(p, memory, desks).is_err() {
+            return;
         }
-        let answer = now.step(p, ring, desks);
-        now = answer.ring;
-        left -= 1;
     }
-    now
 }
 
-// Hands over a part.
-fn drain(start: Ring) -> Ring {
-    let got = start.get();
-    if got.code != 0 {
-        return start;
+// Hands over a part, if one is ready: a put behind a get is not refused.
+fn drain(ring: &mut Ring) {
+    if ring.get().is_ok() {
+        let _ = ring.put();
     }
-    let put = got.ring.put();
-    put.ring
-}
-
-fn wide(x: u8) -> u64 {
-    x as u64
 }
 
 // The sum of the bytes, modulo 2^64.
-fn sum(ring: &[u8]) -> u64 {
-    let mut total: u64 = 0;
-    let mut i = 0;
-    while i < ring.len() {
-        total = std::num::wrapping_add_u64(total, wide(ring[i]));
-        i += 1;
-    }
-    total
+fn sum(memory: &[u8]) -> u64 {
+    memory
+        .iter()
+        .fold(0u64, |total, &b| total.wrapping_add(u64::from(b)))
 }
 
 fn print_line(n: u64) {
@@ -88,20 +54,17 @@ fn print_line(n: u64) {
 }
 
 // Runs the events and prints what came of them.
-fn run(start: Ring, p: u32, payload: &[u8], events: u32, ring: &mut [u8], desks: &mut [u8]) {
-    let mut now = start;
-    let mut left = events;
-    while 0 < left {
-        now = event(now, p, payload, ring, desks);
-        if now.size < now.write.since(now.read) {
-            now = drain(now);
+fn run(ring: &mut Ring, p: u32, payload: &[u8], events: u32, memory: &mut [u8], desks: &mut [u8]) {
+    for _ in 0..events {
+        event(ring, p, payload, memory, desks);
+        if ring.size < ring.write.since(ring.read) {
+            drain(ring);
         }
-        left -= 1;
     }
-    print_line(now.offered as u64);
-    print_line(now.written as u64);
-    print_line(now.lost as u64);
-    print_line(sum(ring));
+    print_line(u64::from(ring.offered));
+    print_line(u64::from(ring.written));
+    print_line(u64::from(ring.lost));
+    print_line(sum(memory));
 }
 
 // The product of two numbers, or 0 where it is more than the given one.
@@ -109,37 +72,33 @@ fn product(a: u32, b: u32, most: usize) -> usize
     ensures { result ≤ most }
 {
     let n = (a as usize) * (b as usize);
-    if most < n {
-        return 0;
-    }
-    n
+    if n <= most { n } else { 0 }
 }
 
 fn main() {
     let mut text = io::buffer();
     let n = io::read_full(0, &mut text);
-    let size = number_at(&text[..n], 0);
-    let parts = number_at(&text[..n], size.next);
-    let producers = number_at(&text[..n], parts.next);
-    let p = number_at(&text[..n], producers.next);
-    let length = number_at(&text[..n], p.next);
-    let events = number_at(&text[..n], length.next);
-    let fresh = Ring::fresh(size.value, parts.value, producers.value, Position(0));
-    if fresh.code != 0 {
+    let (size, rest) = number(&text[..n]);
+    let (parts, rest) = number(rest);
+    let (producers, rest) = number(rest);
+    let (p, rest) = number(rest);
+    let (length, rest) = number(rest);
+    let (events, _) = number(rest);
+    let Ok(mut ring) = Ring::fresh(size, parts, producers, Position(0)) else {
         return;
-    }
-    let mut ring = io::large_buffer();
+    };
+    let mut memory = io::large_buffer();
     let mut desks = io::large_buffer();
     let payload = io::buffer();
-    let b = product(size.value, parts.value, 65536);
-    let d = product(producers.value, size.value, 65536);
-    let l = product(length.value, 1, 4096);
+    let b = product(size, parts, 65536);
+    let d = product(producers, size, 65536);
+    let l = product(length, 1, 4096);
     run(
-        fresh.ring,
-        p.value,
+        &mut ring,
+        p,
         &payload[..l],
-        events.value,
-        &mut ring[..b],
+        events,
+        &mut memory[..b],
         &mut desks[..d],
     );
 }

@@ -1,4 +1,4 @@
--- Reading a line byte by byte gives the line that its text is: `reads`.
+-- Reading a line byte by byte gives the line that its text is: `reads`. A reading that has taken a byte is not empty: `take_begun`.
 use Prim.Native.Nat.{ℕ, zero, suc, ◌+◌, ◌-◌, ◌*◌, ◌≤◌, ◌<◌}
 use Rattle.std.specs.Prelude.{Bool, ◌≡◌, T, eqb, ltb, leb, length, slice_get, slice_index, Option, Some, None}
 use Rattle.std.specs.Option.{unwrap_or}
@@ -8,7 +8,7 @@ use Rattle.std.proofs.Math.Path.{refl, ap}
 use Rattle.std.proofs.Common.{sym, subst, ◌∙◌, rules}
 use native.Mathlib.Omega.{arith}
 use borrow.Author.Tests.{eq-eqb, ne_eqb, eqb-true, le-leb, lt-leb, lt-ltb, le-ltb, leb-true, leb-false}
-use Rattle.std.proofs.lemmas.Bool.{eqb-false}
+use Rattle.std.proofs.lemmas.Bool.{eqb-false, cond_both}
 use Rattle.lines.specs.declared.line.Line.{Line}
 use Rattle.lines.specs.declared.line.Line.TheVariants as line
 use Rattle.lines.specs.declared.word.Word.{Word}
@@ -17,6 +17,7 @@ use Rattle.lines.specs.declared.reading.Reading.{Reading}
 use Rattle.lines.specs.declared.reading.Reading.TheVariants.{Start, Letters, Numbers, Bad}
 use Rattle.lines.specs.Line.{first_field, later_fields, same, is_digit, all_digits, value_from, value_of, is_number, fit, number, most, form_of, line_of}
 use Rattle.lines.specs.Word.{word_from, text_of, numbers_of, limit_of}
+use Rattle.lines.proofs.FieldLaws.{eat, followed, by_fields, eat_bad, followed_bad, whole_of, followed_short}
 use Rattle.lines.specs.Reading.{start_of, is_empty_of, begun_of, first_of, is_next, letter_of, with_digit_of, number_or_bad, next_number_of, space_of, byte_of, take_of, bare_of, made_of, line_in, take_all}
 
 -- ---- tests
@@ -32,79 +33,6 @@ both_true false b e = absurd (no_true e)
 when : (t : Bool) (x y z : Option Line) → (t ≡ true → x ≡ y) → cond t x z ≡ cond t y z
 when true x y z h = h refl
 when false x y z h = refl
-
--- ---- a byte of a field, and a space
-
-take_space : (r : Reading) (b : ℕ) → eqb b 32 ≡ true → take_of r b ≡ space_of r
-unfolding take_of
-take_space r b e = rw e
-
-take_byte : (r : Reading) (b : ℕ) → eqb b 32 ≡ false → take_of r b ≡ byte_of r b
-unfolding take_of
-take_byte r b e = rw e
-
-unfoldable eat : Reading → List ℕ → Reading
-eat r [] = r
-eat r (b ∷ bs) = eat (byte_of r b) bs
-
--- the fields behind the one that was read
-unfoldable followed : Reading → List (List ℕ) → Option Line
-followed r [] = line_in r
-followed r (f ∷ fs) = followed (eat (space_of r) f) fs
-
--- by fields in place of bytes
-by_fields : (r : Reading) (bs : List ℕ) → line_in (take_all r bs) ≡ followed (eat r (first_field bs)) (later_fields bs)
-unfolding take_all eat followed first_field later_fields
-by_fields r [] = refl
-by_fields r (b ∷ bs) = go (eqb b 32) refl (by_fields (take_of r b) bs)
-  where
-    go : (t : Bool) → eqb b 32 ≡ t → line_in (take_all (take_of r b) bs) ≡ followed (eat (take_of r b) (first_field bs)) (later_fields bs) →
-        line_in (take_all (take_of r b) bs) ≡ followed (eat r (cond t [] (b ∷ first_field bs))) (cond t (first_field bs ∷ later_fields bs) (later_fields bs))
-    go true e next = next ∙ ap (λ (x : Reading). followed (eat x (first_field bs)) (later_fields bs)) (take_space r b e)
-    go false e next = next ∙ ap (λ (x : Reading). followed (eat x (first_field bs)) (later_fields bs)) (take_byte r b e)
-
--- ---- a line that is bad stays so
-
-eat_bad : (f : List ℕ) → eat Bad f ≡ Bad
-unfolding eat byte_of
-eat_bad [] = refl
-eat_bad (b ∷ bs) = eat_bad bs
-
-followed_bad : (fs : List (List ℕ)) → followed Bad fs ≡ None
-unfolding followed line_in space_of
-followed_bad [] = refl
-followed_bad (f ∷ fs) = ap (λ (x : Reading). followed x fs) (eat_bad f) ∙ followed_bad fs
-
--- whether the last field is whole
-abbrev whole_of : Reading → Bool
-whole_of (Letters k i) = eqb i (length (text_of k))
-whole_of (Numbers k i (Some v) before) = true
-whole_of r = false
-
-short_line : (r : Reading) → whole_of r ≡ false → line_in r ≡ None
-unfolding line_in
-short_line Start e = refl
-short_line (Letters k i) e = rw e
-short_line (Numbers k i None before) e = refl
-short_line (Numbers k i (Some v) before) e = absurd (no_true (sym e))
-short_line Bad e = refl
-
-short_space : (r : Reading) → whole_of r ≡ false → space_of r ≡ Bad
-unfolding space_of
-short_space Start e = refl
-short_space (Letters k i) e = rw e
-short_space (Numbers k i None before) e = refl
-short_space (Numbers k i (Some v) before) e = absurd (no_true (sym e))
-short_space Bad e = refl
-
--- a field that is not whole
-followed_short : (r : Reading) (fs : List (List ℕ)) → whole_of r ≡ false → followed r fs ≡ None
-unfolding followed
-followed_short r [] e = short_line r e
-followed_short r (f ∷ fs) e =
-    ap (λ (x : Reading). followed (eat x f) fs) (short_space r e)
-    ∙ ap (λ (x : Reading). followed x fs) (eat_bad f)
-    ∙ followed_bad fs
 
 -- ---- a number
 
@@ -124,6 +52,7 @@ bytes_stay v [] = refl
 bytes_stay v (b ∷ bs) = refl
 
 module _ (k : Word) (i : ℕ) (before : List ℕ) where
+  -- a number with these bytes more, or a bad line
   ended : Option ℕ → List ℕ → Reading
   ended o f =
       cond (all_digits f) (cond (leb (value_from (unwrap_or o 0) f) (limit_of k i)) (Numbers k i (with_bytes o f) before) Bad) Bad
@@ -154,6 +83,7 @@ module _ (k : Word) (i : ℕ) (before : List ℕ) where
 
 -- ---- the numbers behind a word
 
+-- a field, i numbers being read
 module _ (k : Word) (i : ℕ) (before : List ℕ) (r : Reading) (space : space_of r ≡ next_number_of k i before) (f : List ℕ) (fs : List (List ℕ)) where
   -- no more numbers than the word has
   too_many : i ≡ numbers_of k → followed r (f ∷ fs) ≡ None
@@ -161,6 +91,7 @@ module _ (k : Word) (i : ℕ) (before : List ℕ) (r : Reading) (space : space_o
   too_many e =
       rw (space, le-ltb i (numbers_of k) (omega arith)) (ap (λ (x : Reading). followed x fs) (eat_bad f) ∙ followed_bad fs)
 
+  -- the next number
   step : i < numbers_of k → followed r (f ∷ fs) ≡ followed (ended k (i + 1) before None f) fs
   unfolding followed next_number_of
   step h =
@@ -176,6 +107,7 @@ limits_from (suc n) k i = limit_of k (i + 1) ∷ limits_from n k (i + 1)
 abbrev moved : List ℕ → ℕ → List ℕ
 moved before v = slice_index before 1 ∷ slice_index before 2 ∷ v ∷ []
 
+-- the line of a word, the numbers read and the fields that follow
 abbrev made_from : Word → (before : List ℕ) → ℕ → List (List ℕ) → Option Line
 made_from k before v [] = made_of k before v
 made_from k before v (f ∷ fs) = made_from k (moved before v) (value_of f) fs
@@ -215,6 +147,7 @@ module _ (k : Word) where
       go true false = followed_bad fs
       go false low = followed_bad fs
 
+  -- the n fields behind the i-th number
   numbers : (n i : ℕ) (before : List ℕ) (v : ℕ) (fs : List (List ℕ)) → i + n ≡ numbers_of k →
       followed (whole i before v) fs ≡ cond (fit (limits_from n k i) fs) (made_from k before v fs) None
   unfolding fit
@@ -223,7 +156,8 @@ module _ (k : Word) where
   numbers (suc n) i before v [] e = too_few i before v (omega arith)
   numbers (suc n) i before v (f ∷ fs) e =
       step k i (moved before v) (whole i before v) (spaced i before v) f fs (omega arith)
-      ∙ after_field (i + 1) (moved before v) f fs (fit (limits_from n k (i + 1)) fs) (made_from k (moved before v) (value_of f) fs) (numbers n (i + 1) (moved before v) (value_of f) fs (omega arith))
+      ∙ after_field (i + 1) (moved before v) f fs (fit (limits_from n k (i + 1)) fs) (made_from k (moved before v) (value_of f) fs)
+      (numbers n (i + 1) (moved before v) (value_of f) fs (omega arith))
 
 -- ---- the word
 
@@ -252,6 +186,7 @@ word_spaced : (k : Word) → space_of (all_letters k) ≡ next_number_of k 0 zer
 unfolding space_of
 word_spaced k = rw (eq-eqb (length (text_of k)) (length (text_of k)) refl)
 
+-- a whole word and the n fields behind it
 after_word : (k : Word) (n : ℕ) (fs : List (List ℕ)) → n ≡ numbers_of k →
     followed (all_letters k) fs ≡ cond (fit (limits_from n k 0) fs) (line_from k fs) None
 unfolding fit
@@ -259,7 +194,8 @@ after_word k n [] e = rw e (word_alone k)
 after_word k zero (f ∷ fs) e = too_many k 0 zeros (all_letters k) (word_spaced k) f fs e
 after_word k (suc n) (f ∷ fs) e =
     step k 0 zeros (all_letters k) (word_spaced k) f fs (omega arith)
-    ∙ after_field k 1 zeros f fs (fit (limits_from n k 1) fs) (made_from k zeros (value_of f) fs) (numbers k n 1 zeros (value_of f) fs (omega arith))
+    ∙ after_field k 1 zeros f fs (fit (limits_from n k 1) fs) (made_from k zeros (value_of f) fs)
+    (numbers k n 1 zeros (value_of f) fs (omega arith))
 
 -- a word's text from its i-th letter on
 abbrev Spells : Word → (i : ℕ) → List ℕ → Type 0
@@ -309,6 +245,7 @@ within l (b ∷ bs) e = leb-true (value_of (b ∷ bs)) l (both_true (all_digits 
 behind : (f : List ℕ) {gs hs : List (List ℕ)} → gs ≡ hs → f ∷ gs ≡ f ∷ hs
 behind f e = ap (λ (l : List (List ℕ)). f ∷ l) e
 
+-- fields that fit give the line of their word
 one_made : (k : Word) (line : ℕ → Line) → ((v : ℕ) → made_of k zeros v ≡ Some (line v)) → (fs : List (List ℕ)) → fit (most ∷ []) fs ≡ true →
     line_from k fs ≡ Some (line (number 0 fs))
 one_made k line h fs e =
@@ -371,13 +308,20 @@ by_word (b ∷ bs) fs =
 
     go : (t1 : Bool) → eqb b 110 ≡ t1 → (t2 : Bool) → eqb b 111 ≡ t2 → (t3 : Bool) → eqb b 102 ≡ t3 → (t4 : Bool) → eqb b 115 ≡ t4 →
         (t5 : Bool) → eqb b 114 ≡ t5 → (t6 : Bool) → eqb b 103 ≡ t6 → (t7 : Bool) → eqb b 112 ≡ t7 → Goal b
-    go true e1 t2 e2 t3 e3 t4 e4 t5 e5 t6 e6 t7 e7 = begins 110 e1 (word_made New (101 ∷ 119 ∷ []) _ fs (search rules) refl (new_made fs) bs)
-    go false e1 true e2 t3 e3 t4 e4 t5 e5 t6 e6 t7 e7 = begins 111 e2 (word_made Offer (102 ∷ 102 ∷ 101 ∷ 114 ∷ []) _ fs (search rules) refl (offer_made fs) bs)
-    go false e1 false e2 true e3 t4 e4 t5 e5 t6 e6 t7 e7 = begins 102 e3 (word_made Flush (108 ∷ 117 ∷ 115 ∷ 104 ∷ []) _ fs (search rules) refl (one_made Flush line.Flush (λ v. refl) fs) bs)
-    go false e1 false e2 false e3 true e4 t5 e5 t6 e6 t7 e7 = begins 115 e4 (word_made Step (116 ∷ 101 ∷ 112 ∷ []) _ fs (search rules) refl (one_made Step line.Step (λ v. refl) fs) bs)
-    go false e1 false e2 false e3 false e4 true e5 t6 e6 t7 e7 = begins 114 e5 (word_made Run (117 ∷ 110 ∷ []) _ fs (search rules) refl (one_made Run line.Run (λ v. refl) fs) bs)
-    go false e1 false e2 false e3 false e4 false e5 true e6 t7 e7 = begins 103 e6 (word_made Get (101 ∷ 116 ∷ []) _ fs (search rules) refl (none_made Get fs) bs)
-    go false e1 false e2 false e3 false e4 false e5 false e6 true e7 = begins 112 e7 (word_made Put (117 ∷ 116 ∷ []) _ fs (search rules) refl (none_made Put fs) bs)
+    go true e1 t2 e2 t3 e3 t4 e4 t5 e5 t6 e6 t7 e7 =
+        begins 110 e1 (word_made New (101 ∷ 119 ∷ []) _ fs (search rules) refl (new_made fs) bs)
+    go false e1 true e2 t3 e3 t4 e4 t5 e5 t6 e6 t7 e7 =
+        begins 111 e2 (word_made Offer (102 ∷ 102 ∷ 101 ∷ 114 ∷ []) _ fs (search rules) refl (offer_made fs) bs)
+    go false e1 false e2 true e3 t4 e4 t5 e5 t6 e6 t7 e7 =
+        begins 102 e3 (word_made Flush (108 ∷ 117 ∷ 115 ∷ 104 ∷ []) _ fs (search rules) refl (one_made Flush line.Flush (λ v. refl) fs) bs)
+    go false e1 false e2 false e3 true e4 t5 e5 t6 e6 t7 e7 =
+        begins 115 e4 (word_made Step (116 ∷ 101 ∷ 112 ∷ []) _ fs (search rules) refl (one_made Step line.Step (λ v. refl) fs) bs)
+    go false e1 false e2 false e3 false e4 true e5 t6 e6 t7 e7 =
+        begins 114 e5 (word_made Run (117 ∷ 110 ∷ []) _ fs (search rules) refl (one_made Run line.Run (λ v. refl) fs) bs)
+    go false e1 false e2 false e3 false e4 false e5 true e6 t7 e7 =
+        begins 103 e6 (word_made Get (101 ∷ 116 ∷ []) _ fs (search rules) refl (none_made Get fs) bs)
+    go false e1 false e2 false e3 false e4 false e5 false e6 true e7 =
+        begins 112 e7 (word_made Put (117 ∷ 116 ∷ []) _ fs (search rules) refl (none_made Put fs) bs)
     go false e1 false e2 false e3 false e4 false e5 false e6 false e7 =
         rw (e1, e2, e3, e4, e5, e6, e7)
         (rw (other 110 e1, other 111 e2, other 102 e3, other 115 e4, other 114 e5, other 103 e6, other 112 e7)
@@ -390,37 +334,36 @@ reads text = by_fields start_of text ∙ by_word (first_field text) (later_field
 
 -- ---- a reading that has taken a byte is not empty
 
-either_begun : (t : Bool) (x y : Reading) → is_empty_of x ≡ false → is_empty_of y ≡ false → is_empty_of (cond t x y) ≡ false
-either_begun true x y h g = h
-either_begun false x y h g = g
+abbrev Begun : Reading → Type 0
+Begun r = is_empty_of r ≡ false
 
-word_begun : (o : Option Word) → is_empty_of (begun_of o) ≡ false
+word_begun : (o : Option Word) → Begun (begun_of o)
 word_begun None = refl
 word_begun (Some k) = refl
 
-number_begun : (k : Word) (i : ℕ) (o : Option ℕ) (before : List ℕ) → is_empty_of (number_or_bad k i o before) ≡ false
+number_begun : (k : Word) (i : ℕ) (o : Option ℕ) (before : List ℕ) → Begun (number_or_bad k i o before)
 number_begun k i None before = refl
 number_begun k i (Some v) before = refl
 
-next_begun : (k : Word) (i : ℕ) (before : List ℕ) → is_empty_of (next_number_of k i before) ≡ false
+next_begun : (k : Word) (i : ℕ) (before : List ℕ) → Begun (next_number_of k i before)
 unfolding next_number_of
-next_begun k i before = either_begun (ltb i (numbers_of k)) _ _ refl refl
+next_begun k i before = cond_both (ltb i (numbers_of k)) _ _ Begun (λ _. refl) (λ _. refl)
 
-space_begun : (r : Reading) → is_empty_of (space_of r) ≡ false
+space_begun : (r : Reading) → Begun (space_of r)
 unfolding space_of
 space_begun Start = refl
-space_begun (Letters k i) = either_begun (eqb i (length (text_of k))) _ _ (next_begun k 0 zeros) refl
+space_begun (Letters k i) = cond_both (eqb i (length (text_of k))) _ _ Begun (λ _. next_begun k 0 zeros) (λ _. refl)
 space_begun (Numbers k i None before) = refl
 space_begun (Numbers k i (Some v) before) = next_begun k i (moved before v)
 space_begun Bad = refl
 
-byte_begun : (r : Reading) (b : ℕ) → is_empty_of (byte_of r b) ≡ false
+byte_begun : (r : Reading) (b : ℕ) → Begun (byte_of r b)
 unfolding byte_of first_of letter_of
 byte_begun Start b = word_begun (word_from b)
-byte_begun (Letters k i) b = either_begun (is_next (slice_get (text_of k) i) b) _ _ refl refl
+byte_begun (Letters k i) b = cond_both (is_next (slice_get (text_of k) i) b) _ _ Begun (λ _. refl) (λ _. refl)
 byte_begun (Numbers k i o before) b = number_begun k i (with_digit_of (unwrap_or o 0) b (limit_of k i)) before
 byte_begun Bad b = refl
 
 pub take_begun : (r : Reading) (b : ℕ) → is_empty_of (take_of r b) ≡ false
 unfolding take_of
-take_begun r b = either_begun (eqb b 32) _ _ (space_begun r) (byte_begun r b)
+take_begun r b = cond_both (eqb b 32) _ _ Begun (λ _. space_begun r) (λ _. byte_begun r b)

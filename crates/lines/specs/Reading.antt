@@ -14,12 +14,14 @@ use Rattle.lines.specs.Word.{word_from, text_of, numbers_of, limit_of}
 abbrev pub start_of : Reading
 start_of = Start
 
+-- no byte of the line was read
 abbrev pub is_empty_of : Reading → Bool
 is_empty_of Start = true
 is_empty_of r = false
 
 -- ---- a byte of the word
 
+-- a first letter, of a word or of none
 abbrev pub begun_of : Option Word → Reading
 begun_of None = Bad
 begun_of (Some word) = Letters word 1
@@ -42,13 +44,14 @@ unfoldable pub with_digit_of : (number b limit : ℕ) → Option ℕ
 with_digit_of number b limit =
     cond (is_digit b) (cond (leb (number * 10 + (b - 48)) limit) (Some (number * 10 + (b - 48))) None) None
 
+-- the number being read, if it is one
 abbrev pub number_or_bad : Word → (place : ℕ) → Option ℕ → (before : List ℕ) → Reading
 number_or_bad word place None before = Bad
 number_or_bad word place (Some value) before = Numbers word place (Some value) before
 
 -- ---- a space
 
--- in front of a number, so many being read, if the word has more
+-- behind the word or a number, so many numbers being read: the next one begins, if the word has more
 unfoldable pub next_number_of : Word → (read : ℕ) → (before : List ℕ) → Reading
 next_number_of word read before = cond (ltb read (numbers_of word)) (Numbers word (read + 1) None before) Bad
 
@@ -59,6 +62,7 @@ space_of r = Bad
 
 -- ---- any byte, and the end
 
+-- a byte that is no space
 unfoldable pub byte_of : Reading → (b : ℕ) → Reading
 byte_of Start b = first_of b
 byte_of (Letters word read) b = letter_of word read b

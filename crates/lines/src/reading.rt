@@ -16,8 +16,8 @@ pub enum Reading {
         word: Word,
         read: usize,
     },
-    // They are a word and numbers behind it, and the one at place is being read, the first being at 1. number: what its digits so far
-    // come to, None where it has none yet. before: the three numbers before it, the newest last, and 0 where there are fewer.
+    // They are a word and numbers behind it: the one at place is being read, the first being at 1. number: what its digits come to,
+    // None before the first digit. before: the three numbers before it, the newest last, and 0 where there are fewer.
     Numbers {
         word: Word,
         place: usize,
@@ -65,7 +65,8 @@ fn with_digit(number: u32, b: u8, limit: u32) -> Option<u32>
     (value <= limit).then_some(value)
 }
 
-// A space in front of a number, so many being read, or the line is bad if the word has no more.
+// A space behind the word or behind a number, so many numbers being read: the next number begins, or the line is bad if the word has
+// no more.
 #[tactic(auto, unfolding(crate::specs::Reading::next_number_of))]
 fn next_number(word: Word, read: usize, before: [u32; 3]) -> Reading
     ensures { result ≡ next_number_of word read before }
@@ -116,7 +117,7 @@ impl Reading {
         Reading::Start
     }
 
-    // Whether no byte was taken.
+    // Whether no byte of the line was read.
     pub fn is_empty(self) -> bool
         ensures { result ≡ is_empty_of self }
     {
@@ -129,9 +130,9 @@ impl Reading {
         ensures { result ≡ space_of self }
     {
         match self {
-            Reading::Letters { word, read } if read == word.text().len() => next_number(
-                word, 0, [0; 3],
-            ),
+            Reading::Letters { word, read } if read == word.text().len() => {
+                next_number(word, 0, [0; 3])
+            }
             Reading::Numbers {
                 word,
                 place,

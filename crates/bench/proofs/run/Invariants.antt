@@ -1,5 +1,0 @@
--- The events that are left.
-use Rattle.bench.proofs.run.Given as goal
-
-abbrev pub decreases-loop-left : goal.decreases-loop-left
-decreases-loop-left l = l.left
