@@ -7,21 +7,23 @@ mod program;
 mod text;
 
 use program::Program;
-use std::io::{Read, Stdin};
+use std::io::{Read, Stdin, Stdout, Write};
 use text::{Out, PART};
 
 // Reads the input to its end, in parts. A proved loop has to end, and nothing says that the input does: so the loop counts its turns
-// up to a number that no run reaches. A read that fails counts as the end.
-fn replay(input: &mut Stdin, program: &mut Program, out: &mut Out) {
+// up to a number that no run reaches. A read that fails counts as the end; a write that fails is let go.
+fn replay(input: &mut Stdin, output: &mut Stdout) {
+    let mut program = Program::start();
     let mut text = [0u8; PART];
+    let mut out = Out::new();
     for _ in 0..u64::MAX {
         let n = input.read(&mut text).unwrap_or(0);
         if n == 0 {
-            program.finish(out);
+            program.finish(&mut out);
         } else {
-            program.feed_all(&text[..n], out);
+            program.feed_all(&text[..n], &mut out);
         }
-        io::write_all(1, out.as_bytes());
+        let _ = output.write_all(out.as_bytes());
         if n == 0 || program.is_over() {
             return;
         }
@@ -29,7 +31,5 @@ fn replay(input: &mut Stdin, program: &mut Program, out: &mut Out) {
 }
 
 fn main(rt: HostRuntime) {
-    let mut program = Program::start();
-    let mut out = Out::new();
-    replay(&mut rt.stdin(), &mut program, &mut out);
+    replay(&mut rt.stdin(), &mut rt.stdout());
 }
