@@ -8,6 +8,7 @@ pub mod Position
 pub mod PositionLaws
 pub mod Commit
 pub mod CommitLaws
+pub mod CountLaws
 pub mod Shape
 pub mod ShapeLaws
 pub mod Place

@@ -6,7 +6,9 @@
 #![tactic(auto)]
 
 pub mod commit;
+pub mod count;
 pub mod divide;
+pub mod lap;
 pub mod place;
 pub mod position;
 pub mod shape;

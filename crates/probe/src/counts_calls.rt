@@ -6,6 +6,8 @@ ghost use Rattle.counts.specs.Position.{position, plus_of, since_of, offset_of, 
 ghost use Rattle.counts.specs.Shape.{size_of, parts_of, producers_of, shape_of};
 
 use counts::commit::Commit;
+use counts::count::Count;
+use counts::lap::Lap;
 use counts::place::Place;
 use counts::position::Position;
 
@@ -118,35 +120,35 @@ pub extern "C" fn counts_place(w: u32, z: u32, size: u32, header: u32) -> Place
 pub extern "C" fn counts_byte(x: u32, size: u32, parts: u32) -> usize
     ensures { result ≡ byte_of (position x) size parts }
 {
-    Position(x).byte(size, parts)
+    Position(x).byte(Lap { size, parts })
 }
 
 #[unsafe(no_mangle)]
 pub extern "C" fn counts_part(x: u32, size: u32, parts: u32) -> usize
     ensures { result ≡ part_of (position x) size parts }
 {
-    Position(x).part(size, parts)
+    Position(x).part(Lap { size, parts })
 }
 
 #[unsafe(no_mangle)]
 pub extern "C" fn counts_full(p: Place, read: u32, size: u32, parts: u32) -> bool
     ensures { result ≡ full_of p (position read) size parts }
 {
-    p.full(Position(read), size, parts)
+    p.full(Position(read), Lap { size, parts })
 }
 
 #[unsafe(no_mangle)]
 pub extern "C" fn counts_to_commit(r: u32, size: u32, parts: u32) -> Commit
     ensures { result ≡ to_commit_of (position r) size parts }
 {
-    Position(r).to_commit(size, parts)
+    Position(r).to_commit(Lap { size, parts })
 }
 
 #[unsafe(no_mangle)]
 pub extern "C" fn counts_ready(r: u32, seq: u32, size: u32, parts: u32) -> bool
     ensures { result ≡ ready_of (position r) (commit seq) size parts }
 {
-    Commit(seq).ready(Position(r), size, parts)
+    Commit(seq).ready(Position(r), Lap { size, parts })
 }
 
 #[unsafe(no_mangle)]
