@@ -2,7 +2,7 @@
 use Rattle.std.specs.Prelude.{ℕ, cond, List, [], ◌∷◌, ◌++◌, eqb, replicate}
 use Rattle.script.specs.declared.play.Play.{Play}
 use Rattle.lines.specs.Line.{line_of}
-use Rattle.script.specs.Play.{start_play, done_of, done_memory, done_desks}
+use Rattle.script.specs.Play.{start_play, over, done_of, done_memory, done_desks}
 use Rattle.replay.specs.Text.{told_of}
 
 -- a last line without a line feed counts, unless nothing stands there
@@ -24,7 +24,7 @@ printed p memory desks [] = []
 printed p memory desks (text ∷ texts) =
     let line = line_of text in
     let next = done_of p line memory desks in
-    told_of next ++ cond next.over [] (printed next (done_memory p line memory desks) (done_desks p line desks) texts)
+    told_of next ++ cond (over next) [] (printed next (done_memory p line memory desks) (done_desks p line desks) texts)
 
 -- ring memory and desks begin as zeros
 abbrev pub output_of : List ℕ → List ℕ

@@ -1,6 +1,9 @@
 -- What a line prints (document 01, "The replay program"): answer, write, read, offered, written, lost, or `bad line`.
 use Rattle.std.specs.Prelude.{ℕ, zero, suc, ◌+◌, ◌/◌, ◌%◌, cond, List, [], ◌∷◌, ◌++◌, eqb, ltb}
+use Rattle.ring.specs.Told.{code_of}
 use Rattle.script.specs.declared.play.Play.{Play}
+use Rattle.script.specs.declared.play.Play.TheVariants.{Waiting, Going, Over}
+use Rattle.script.specs.Play.{ring_of, over}
 
 -- a number in decimal, of k digits at most, with no zero in front
 unfoldable pub decimal_by : (k n : ℕ) → List ℕ
@@ -20,13 +23,19 @@ unfoldable pub joined : (i : ℕ) → List ℕ → List ℕ
 joined i [] = []
 joined i (n ∷ ns) = (decimal_of n ++ (end_of i ∷ [])) ++ joined (suc i) ns
 
+-- what a play's last line was answered, and the counts of its ring; before the first line all are zero
+abbrev pub code_in : Play → ℕ
+code_in Waiting = 0
+code_in (Going r answer) = code_of answer
+code_in Over = 0
+
 abbrev pub numbers_told : Play → List ℕ
 numbers_told p =
-    p.answer ∷ p.ring.write.0 ∷ p.ring.read.0 ∷ p.ring.offered ∷ p.ring.written ∷ p.ring.lost ∷ []
+    let r = ring_of p in code_in p ∷ r.write.0 ∷ r.read.0 ∷ r.offered ∷ r.written ∷ r.lost ∷ []
 
 -- `bad line` and a line feed
 abbrev pub bad_line : List ℕ
 bad_line = 98 ∷ 97 ∷ 100 ∷ 32 ∷ 108 ∷ 105 ∷ 110 ∷ 101 ∷ 10 ∷ []
 
 unfoldable pub told_of : Play → List ℕ
-told_of p = cond p.over bad_line (joined 0 (numbers_told p))
+told_of p = cond (over p) bad_line (joined 0 (numbers_told p))

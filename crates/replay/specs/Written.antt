@@ -1,7 +1,7 @@
 -- A line written out: its word and its numbers in decimal, one space between two fields.
 use Rattle.std.specs.Prelude.{ℕ, ◌≤◌, List, [], ◌∷◌, ◌++◌}
 use Rattle.lines.specs.declared.line.Line.{Line}
-use Rattle.lines.specs.declared.line.Line.TheVariants.{New, Offer, Flush, Step, Run, Get, Put, Bad}
+use Rattle.lines.specs.declared.line.Line.TheVariants.{New, Offer, Flush, Step, Run, Get, Put}
 use Rattle.lines.specs.Line.{most, word_new, word_offer, word_flush, word_step, word_run, word_get, word_put}
 use Rattle.replay.specs.Text.{decimal_of}
 
@@ -17,9 +17,8 @@ written (Step p) = spelled word_step (p ∷ [])
 written (Run p) = spelled word_run (p ∷ [])
 written Get = spelled word_get []
 written Put = spelled word_put []
-written Bad = []
 
--- its numbers are within their limits, and it is not bad
+-- its numbers are within their limits
 unfoldable pub Fits : Line → Type 0
 Fits (New S N P start) = (S ≤ most) × (N ≤ most) × (P ≤ most) × (start ≤ most)
 Fits (Offer p kind L) = (p ≤ most) × (kind ≤ 255) × (L ≤ 65535)
@@ -28,4 +27,3 @@ Fits (Step p) = p ≤ most
 Fits (Run p) = p ≤ most
 Fits Get = Unit {0}
 Fits Put = Unit {0}
-Fits Bad = ⊥

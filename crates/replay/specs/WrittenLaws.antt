@@ -1,10 +1,10 @@
 -- A line that is written out reads back: `written_reads`.
-use Rattle.std.specs.Prelude.{ℕ, zero, suc, ◌+◌, ◌-◌, ◌*◌, ◌/◌, ◌%◌, ◌^◌, ◌≤◌, ◌<◌, Bool, true, false, cond, ◌≡◌, eqb, ltb, length}
+use Rattle.std.specs.Prelude.{ℕ, zero, suc, ◌+◌, ◌-◌, ◌*◌, ◌/◌, ◌%◌, ◌^◌, ◌≤◌, ◌<◌, Bool, true, false, cond, ◌≡◌, eqb, ltb, length, Some, None}
 use mathlib.Core.List.{List, [], ◌∷◌, ◌++◌}
 use Rattle.std.proofs.Math.Path.{refl}
 use Rattle.std.proofs.Common.{ap, ap₂, ◌∙◌, mod-lt, pow-suc, arith, length-append, ne_eqb, le-ltb, ltb-true, le-leb}
 use Rattle.lines.specs.declared.line.Line.{Line}
-use Rattle.lines.specs.declared.line.Line.TheVariants.{New, Offer, Flush, Step, Run, Get, Put, Bad}
+use Rattle.lines.specs.declared.line.Line.TheVariants.{New, Offer, Flush, Step, Run, Get, Put}
 use Rattle.lines.specs.Line.{first_field, later_fields, same, is_digit, all_digits, value_from, value_of, is_number, fit, most, form_of, line_of, word_new, word_offer, word_flush, word_step, word_run, word_get, word_put}
 use Rattle.lines.proofs.ReadingLaws.{no_true, both_true}
 use Rattle.replay.specs.Text.{decimal_by, decimal_of}
@@ -130,11 +130,11 @@ fit_end = refl
 fit_single : (p : ℕ) → p ≤ most → fit (most ∷ []) (texts (p ∷ [])) ≡ true
 fit_single p h = fit_next most p [] [] h h fit_end
 
-when_fit : (t : Bool) (x y : Line) → t ≡ true → x ≡ y → cond t x Bad ≡ y
-when_fit true x y e h = h
+when_fit : (t : Bool) (x y : Line) → t ≡ true → x ≡ y → cond t (Some x) None ≡ Some y
+when_fit true x y e h = ap Some h
 when_fit false x y e h = absurd (no_true e)
 
-pub written_reads : (l : Line) → Fits l → line_of (written l) ≡ l
+pub written_reads : (l : Line) → Fits l → line_of (written l) ≡ Some l
 unfolding written Fits form_of same texts
 written_reads (New S N P x) h =
     let p = fit_next most P (most ∷ []) (x ∷ []) h.2 h.2 (fit_single x h.3) in
@@ -158,4 +158,3 @@ written_reads (Run p) h =
     spelled_reads word_run (p ∷ []) (refl, (refl, (refl, tt))) ∙ when_fit _ _ (Run p) (fit_single p h) (λ i. Run (value_is p h i))
 written_reads Get h = spelled_reads word_get [] (refl, (refl, (refl, tt))) ∙ when_fit _ Get Get fit_end refl
 written_reads Put h = spelled_reads word_put [] (refl, (refl, (refl, tt))) ∙ when_fit _ Put Put fit_end refl
-written_reads Bad h = absurd h

@@ -1,114 +1,94 @@
 // The program on bytes: what it makes of its input, byte by byte, and what it prints.
-ghost use Rattle.std.specs.Prelude.{◌++◌, ◌≡◌, ◌+◌, ◌*◌, ◌≤◌, length, take};
-ghost use Rattle.replay.specs.Program.{state_of, lined_of, fed_of, said_of, fed_all, said_all, last_said, start_program};
+ghost use Rattle.std.specs.Prelude.{[], ◌≡◌, ◌*◌, ◌≤◌, if◌then◌else◌, length};
+ghost use Rattle.replay.specs.Program.{lined_of, fed_of, said_of, fed_all, said_all, last_said, start_program};
+ghost use Rattle.script.specs.Play.{over};
 ghost use Rattle.replay.specs.Text.{told_of};
+ghost use Rattle.replay.specs.declared.text.TheConstants.{LINE, ROOM};
 
+use super::text::{Out, tell};
 use lines::reading::Reading;
 use script::play::Play;
 
-// The line that is being read, the ring and what was answered last, and how many bytes are to be printed.
-#[derive(Clone, Copy)]
+// The line that is being read, the ring and what was answered last, and the buffers for ring memory and desks.
+#[derive(Drop)]
 pub struct Program {
     pub reading: Reading,
     pub play: Play,
-    pub used: usize,
+    pub memory: [u8; 65536],
+    pub desks: [u8; 32768],
 }
 
 impl Program {
-    // Before the first byte.
+    // Before the first byte. Ring memory and desks begin as zeros.
     pub fn start() -> Program
         ensures { result ≡ start_program }
     {
         Program {
             reading: Reading::start(),
             play: Play::start(),
-            used: 0,
+            memory: [0; 65536],
+            desks: [0; 32768],
         }
     }
 
-    // Does the line that was read, and prints its answer.
+    // Whether a bad line has ended the program.
+    pub(crate) fn is_over(&self) -> bool
+        ensures { result ≡ over self.now.play }
+    {
+        matches!(self.play, Play::Over)
+    }
+
+    // Does the line that was read.
     #[tactic(auto, unfolding(crate::specs::Program::lined_of))]
-    fn line(self, memory: &mut [u8], desks: &mut [u8], out: &mut [u8]) -> Program
-        requires { self.used + 66 ≤ length out.old }
-        ensures used_bound { result.used ≤ self.used + 66 }
-        ensures desks_after { state_of result memory.new desks.new ≡ lined_of (state_of self memory.old desks.old) }
-        ensures out_after { take result.used out.new ≡ take self.used out.old ++ told_of result.play }
+    fn line(&mut self)
+        ensures { self.new ≡ lined_of self.old }
     {
-        let reading = self.reading;
-        let play = self.play;
-        let next = play.does(reading.line(), memory, desks);
-        let used = super::text::tell(next, out, self.used);
-        Program {
-            reading: Reading::start(),
-            play: next,
-            used: used,
-        }
+        let line = self.reading.line();
+        self.play.does(line, &mut self.memory, &mut self.desks);
+        self.reading = Reading::start();
     }
 
-    // The next byte of the input. After a bad line nothing is done.
+    // The next byte of the input, and whether it ended a line, which prints its answer then. After a bad line nothing is done.
     #[tactic(auto, unfolding(crate::specs::Program::fed_of, crate::specs::Program::said_of))]
-    fn feed(self, b: u8, memory: &mut [u8], desks: &mut [u8], out: &mut [u8]) -> Program
-        requires { self.used + 66 ≤ length out.old }
-        ensures used_bound { result.used ≤ self.used + 66 }
-        ensures desks_after { state_of result memory.new desks.new ≡ fed_of (state_of self memory.old desks.old) b }
-        ensures out_after { take result.used out.new ≡ take self.used out.old ++ said_of (state_of self memory.old desks.old) b }
+    fn feed(&mut self, b: u8) -> bool
+        ensures program_after { self.new ≡ fed_of self.old b }
+        ensures printed { said_of self.old b ≡ if result then told_of self.new.play else [] }
     {
-        let reading = self.reading;
-        let play = self.play;
-        if play.over {
-            return self;
+        if self.is_over() {
+            return false;
         }
-        if b == b'\n' {
-            return self.line(memory, desks, out);
+        if b != b'\n' {
+            self.reading = self.reading.take(b);
+            return false;
         }
-        Program {
-            reading: reading.take(b),
-            play: play,
-            used: self.used,
-        }
+        self.line();
+        true
     }
 
-    // A part of the input: does what each byte asks for, and fills out with what is to be printed. A byte prints 66 bytes at most.
-    pub(crate) fn feed_all(
-        self,
-        text: &[u8],
-        memory: &mut [u8],
-        desks: &mut [u8],
-        out: &mut [u8],
-    ) -> Program
-        requires { 66 * length text.now ≤ length out.old }
-        ensures used_in_bounds { result.used ≤ length out.new }
-        ensures desks_after { state_of result memory.new desks.new ≡ fed_all (state_of self memory.old desks.old) text.now }
-        ensures out_after { take result.used out.new ≡ said_all (state_of self memory.old desks.old) text.now }
+    // A part of the input: does what each byte asks for, and fills out with what is to be printed.
+    #[tactic(auto, using(crate::specs::ProgramLaws::byte_by_byte))]
+    pub(crate) fn feed_all(&mut self, text: &[u8], out: &mut Out)
+        requires { LINE * length text.now ≤ ROOM }
+        ensures program_after { self.new ≡ fed_all self.old text.now }
+        ensures out_after { out.new.bytes ≡ said_all self.old text.now }
     {
-        let mut next = self;
-        next.used = 0;
-        let mut i = 0;
-        while i < text.len() {
-            next = next.feed(text[i], memory, desks, out);
-            i += 1;
+        out.clear();
+        for &b in text {
+            if self.feed(b) {
+                tell(&self.play, out);
+            }
         }
-        next
     }
 
     // The end of the input: a last line without a line feed counts.
     #[tactic(auto, unfolding(crate::specs::Program::last_said))]
-    pub(crate) fn finish(self, memory: &mut [u8], desks: &mut [u8], out: &mut [u8]) -> usize
-        requires { 66 ≤ length out.old }
-        ensures upper_bound { result ≤ length out.new }
-        ensures out_after { take result out.new ≡ last_said (state_of self memory.old desks.old) }
+    pub(crate) fn finish(&mut self, out: &mut Out)
+        ensures { out.new.bytes ≡ last_said self.old }
     {
-        let reading = self.reading;
-        let play = self.play;
-        if play.over {
-            return 0;
+        out.clear();
+        if !self.is_over() && !self.reading.is_empty() {
+            self.line();
+            tell(&self.play, out);
         }
-        if reading.word == 0 {
-            return 0;
-        }
-        let mut next = self;
-        next.used = 0;
-        let last = next.line(memory, desks, out);
-        last.used
     }
 }

@@ -1,67 +1,65 @@
 // What a line prints: six numbers, or that the line is bad.
-ghost use Rattle.std.specs.Prelude.{[], ◌∷◌, ◌++◌, ◌≡◌, ◌+◌, ◌≤◌, ◌<◌, length, take};
-ghost use Rattle.replay.specs.Text.{decimal_of, end_of, joined, numbers_told, bad_line, told_of};
+ghost use Rattle.std.specs.Prelude.{[], ◌∷◌, ◌++◌, ◌≡◌, ◌+◌, ◌≤◌, ◌<◌};
+ghost use Rattle.arrayvec.specs.ArrayString.{array_string_len};
+ghost use Rattle.replay.specs.Text.{decimal_of, end_of, joined, numbers_told, told_of};
+ghost use Rattle.replay.specs.declared.text.TheConstants.{NUMBER, LINE, ROOM};
 
+use arrayvec::ArrayString;
+use ring::refusal::Refusal;
+use ring::state::Ring;
 use script::play::Play;
 
-// Copies a text behind the first bytes of a buffer, and answers how many there are then.
-#[tactic(auto, using(crate::specs::TextLaws::text_behind))]
-fn put_text(out: &mut [u8], at: usize, text: &[u8]) -> usize
-    requires { at + length text.now ≤ length out.old }
-    ensures value { result ≡ at + length text.now }
-    ensures out_after { take result out.new ≡ take at out.old ++ text.now }
-{
-    let end = at + text.len();
-    layout::bytes::copy(text, &mut out[at..end]);
-    end
-}
+// A number prints 11 bytes at most: ten digits, and the byte that ends it.
+pub(crate) const NUMBER: usize = 11;
+
+// A line prints 66 bytes at most: six numbers.
+pub(crate) const LINE: usize = 66;
+
+// How many bytes of the input are read at a time.
+pub(crate) const PART: usize = 990;
+
+// What they print at most: each of them may end a line.
+pub(crate) const ROOM: usize = PART * LINE;
+
+// What is to be printed.
+pub(crate) type Out = ArrayString<ROOM>;
 
 // A number in decimal and the byte that ends it.
-fn put_number(out: &mut [u8], at: usize, n: u32, end: u8) -> usize
-    requires { at + 11 ≤ length out.old }
-    ensures upper_bound { result ≤ at + 11 }
-    ensures out_after { take result out.new ≡ take at out.old ++ (decimal_of n ++ (end ∷ [])) }
+fn put_number(out: &mut Out, n: u32, end: char)
+    requires room { array_string_len out.old + NUMBER ≤ ROOM }
+    requires ascii { end < 128 }
+    ensures upper_bound { array_string_len out.new ≤ array_string_len out.old + NUMBER }
+    ensures out_after { out.new.bytes ≡ out.old.bytes ++ (decimal_of n ++ (end ∷ [])) }
 {
-    let mut text = [0u8; 20];
-    let k = io::decimal(n as u64, &mut text);
-    let mid = put_text(out, at, &text[..k]);
-    out[mid] = end;
-    mid + 1
+    let mut digits = itoa::Buffer::new();
+    out.push_str(digits.format(n));
+    out.push(end);
 }
 
 // The byte that ends the number at place i: a space, or a line feed behind the last one.
-fn end_of(i: usize) -> u8
-    requires { i < 6 }
+fn end_of(i: usize) -> char
     ensures { result ≡ end_of i }
 {
-    if i == 5 {
-        return b'\n';
-    }
-    b' '
+    if i == 5 { '\n' } else { ' ' }
 }
 
 // Six numbers, one space between two of them, and a line feed.
-fn put_numbers(out: &mut [u8], at: usize, numbers: [u32; 6]) -> usize
-    requires { at + 66 ≤ length out.old }
-    ensures upper_bound { result ≤ at + 66 }
-    ensures out_after { take result out.new ≡ take at out.old ++ joined 0 numbers }
+fn put_numbers(out: &mut Out, numbers: [u32; 6])
+    requires { array_string_len out.old + LINE ≤ ROOM }
+    ensures upper_bound { array_string_len out.new ≤ array_string_len out.old + LINE }
+    ensures out_after { out.new.bytes ≡ out.old.bytes ++ joined 0 numbers }
 {
-    let mut used = at;
-    let mut i = 0;
-    while i < 6 {
-        used = put_number(out, used, numbers[i], end_of(i));
-        i += 1;
+    for (i, &n) in numbers.iter().enumerate() {
+        put_number(out, n, end_of(i));
     }
-    used
 }
 
 // The numbers that a line prints: answer, write, read, offered, written, lost.
-fn numbers(play: Play) -> [u32; 6]
-    ensures { result ≡ numbers_told play }
+fn numbers(ring: &Ring, answer: Result<(), Refusal>) -> [u32; 6]
+    ensures { result ≡ numbers_told (Play.Going ring.now answer) }
 {
-    let ring = play.ring;
     [
-        play.answer,
+        answer.err().map_or(0, u32::from),
         ring.write.0,
         ring.read.0,
         ring.offered,
@@ -70,15 +68,16 @@ fn numbers(play: Play) -> [u32; 6]
     ]
 }
 
-// Puts what the last line prints behind the first bytes of a buffer, and answers how many there are then.
+// Puts what the last line prints behind what is there.
 #[tactic(auto, unfolding(crate::specs::Text::told_of))]
-pub(crate) fn tell(play: Play, out: &mut [u8], at: usize) -> usize
-    requires { at + 66 ≤ length out.old }
-    ensures upper_bound { result ≤ at + 66 }
-    ensures out_after { take result out.new ≡ take at out.old ++ told_of play }
+pub(crate) fn tell(play: &Play, out: &mut Out)
+    requires { array_string_len out.old + LINE ≤ ROOM }
+    ensures upper_bound { array_string_len out.new ≤ array_string_len out.old + LINE }
+    ensures out_after { out.new.bytes ≡ out.old.bytes ++ told_of play.now }
 {
-    if play.over {
-        return put_text(out, at, b"bad line\n");
+    match play {
+        Play::Waiting => put_numbers(out, [0; 6]),
+        Play::Going { ring, answer } => put_numbers(out, numbers(ring, *answer)),
+        Play::Over => out.push_str("bad line\n"),
     }
-    put_numbers(out, at, numbers(play))
 }

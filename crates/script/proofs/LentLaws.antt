@@ -1,5 +1,5 @@
 -- Once a new is accepted the ring has an allowed shape for ever, and what is lent to its calls is exactly as long as document 01 asks.
-use Rattle.std.specs.Prelude.{ℕ, zero, suc, ◌*◌, Bool, true, false, cond, List, ◌≡◌, refl, eqb, length}
+use Rattle.std.specs.Prelude.{ℕ, zero, suc, ◌*◌, Bool, true, false, cond, List, ◌≡◌, ◌==◌, refl, eqb, length, Option, Some, None}
 use Rattle.std.proofs.Common.{◌∙◌, mul-le-mul, arith, length-take-le, eq-eqb, eqb-true}
 use Rattle.counts.specs.Position.{position, plus_of}
 use Rattle.counts.specs.Wrap.{add32}
@@ -11,13 +11,14 @@ use Rattle.ring.specs.declared.state.Ring.{Ring}
 use Rattle.ring.specs.Calls.{fresh_of, offer_of, flush_of, stepped, step_of, get_of, put_of}
 use Rattle.ring.specs.Refusals.{fresh_refusal, offer_refusal, flush_refusal, step_refusal, get_refusal, put_refusal}
 use Rattle.runs.specs.Run.{steps, most, world, run_of}
-use Rattle.ring.specs.State.{at, with_producer, with_offered, with_read, with_holding}
-use Rattle.steps.specs.Producer.{starts}
 use Rattle.ring.specs.World.{World, step, after}
+use Rattle.ring.specs.State.{at, says, with_producer, with_offered, with_read, with_holding}
+use Rattle.steps.specs.Producer.{starts}
 use Rattle.lines.specs.declared.line.Line.{Line}
-use Rattle.lines.specs.declared.line.Line.TheVariants.{New, Offer, Flush, Step, Run, Get, Put, Bad}
+use Rattle.lines.specs.declared.line.Line.TheVariants.{New, Offer, Flush, Step, Run, Get, Put}
 use Rattle.script.specs.declared.play.Play.{Play}
-use Rattle.script.specs.Play.{play_of, memory_lent, desks_lent, answer_of, start_play, allowed, ended_of, answered_of, done_of}
+use Rattle.script.specs.declared.play.Play.TheVariants.{Waiting, Going, Over}
+use Rattle.script.specs.Play.{memory_lent, desks_lent, answer_of, start_play, begun, ring_of, play_of, allowed, answered_of, done_of}
 use Rattle.lines.proofs.ReadingLaws.{no_true}
 
 abbrev pub shape_at : Ring → Bool
@@ -78,49 +79,53 @@ fresh_shape S N P start e = rw (eq-eqb (fresh_refusal S N P (position start)) 0 
 -- ---- a ring that was begun has an allowed shape
 
 abbrev pub Right : Play → Type 0
-Right p = p.begun ≡ true → shape_at p.ring ≡ true
+Right p = begun p ≡ true → shape_at (ring_of p) ≡ true
 
-call_right : (line : Line) (p : Play) (m d : List ℕ) → Right p → allowed p.begun line ≡ true → (answer_of p.ring line m d).code ≡ 0 →
-    shape_at (answer_of p.ring line m d).ring ≡ true
+call_right : (line : Line) (p : Play) (m d : List ℕ) → Right p → allowed (begun p) line ≡ true → (answer_of (ring_of p) line m d).code ≡ 0 →
+    shape_at (answer_of (ring_of p) line m d).ring ≡ true
 unfolding answer_of
 call_right (New S N P x) p m d h a e = fresh_shape S N P x e
-call_right (Offer q k L) p m d h a e = offer_shape p.ring q L (length (desks_lent p.ring d)) ∙ h a
-call_right (Flush q) p m d h a e = flush_shape p.ring q ∙ h a
-call_right (Step q) p m d h a e = step_shape p.ring q _ _ ∙ h a
-call_right (Run q) p m d h a e = run_shape p.ring q _ _ ∙ h a
-call_right Get p m d h a e = get_shape p.ring ∙ h a
-call_right Put p m d h a e = put_shape p.ring ∙ h a
-call_right Bad p m d h a e = absurd (no_true a)
+call_right (Offer q k L) p m d h a e = offer_shape (ring_of p) q L (length (desks_lent (ring_of p) d)) ∙ h a
+call_right (Flush q) p m d h a e = flush_shape (ring_of p) q ∙ h a
+call_right (Step q) p m d h a e = step_shape (ring_of p) q _ _ ∙ h a
+call_right (Run q) p m d h a e = run_shape (ring_of p) q _ _ ∙ h a
+call_right Get p m d h a e = get_shape (ring_of p) ∙ h a
+call_right Put p m d h a e = put_shape (ring_of p) ∙ h a
 
 answered_right : (p : Play) (a : Answer) → Right p → (a.code ≡ 0 → shape_at a.ring ≡ true) → Right (answered_of p a)
 unfolding answered_of
-answered_right p a h k = go (eqb a.code 0) refl p.begun refl
+answered_right Waiting a h k = go (a.code == 0) refl
   where
-    go : (t : Bool) → eqb a.code 0 ≡ t → (u : Bool) → p.begun ≡ u →
-        Right (cond t (play_of true false 0 a.ring) (cond u (play_of true false a.code p.ring) (ended_of p)))
-    go true e u f = λ _. k (eqb-true a.code 0 e)
-    go false e true f = λ _. h f
-    go false e false f = h
+    go : (t : Bool) → (a.code == 0) ≡ t → Right (cond t (play_of a) Over)
+    go true e = λ _. k (eqb-true a.code 0 e)
+    go false e = λ f. absurd (no_true f)
+answered_right (Going r answer) a h k = go (a.code == 0) refl
+  where
+    go : (t : Bool) → (a.code == 0) ≡ t → Right (play_of (says a.code (cond t a.ring r)))
+    go true e = λ _. k (eqb-true a.code 0 e)
+    go false e = h
+answered_right Over a h k = h
 
 pub start_right : Right start_play
 start_right e = absurd (no_true e)
 
-pub done_right : (p : Play) (line : Line) (m d : List ℕ) → Right p → Right (done_of p line m d)
+pub done_right : (p : Play) (line : Option Line) (m d : List ℕ) → Right p → Right (done_of p line m d)
 unfolding done_of
-done_right p line m d h = go (allowed p.begun line) refl
+done_right p None m d h = λ f. absurd (no_true f)
+done_right p (Some line) m d h = go (allowed (begun p) line) refl
   where
-    go : (t : Bool) → allowed p.begun line ≡ t → Right (cond t (answered_of p (answer_of p.ring line m d)) (ended_of p))
-    go true a = answered_right p (answer_of p.ring line m d) h (call_right line p m d h a)
-    go false a = h
+    go : (t : Bool) → allowed (begun p) line ≡ t → Right (cond t (answered_of p (answer_of (ring_of p) line m d)) Over)
+    go true a = answered_right p (answer_of (ring_of p) line m d) h (call_right line p m d h a)
+    go false a = λ f. absurd (no_true f)
 
 -- ---- what is lent to its calls: S-as-N bytes of ring memory, P-as-S of desks
 
-pub memory_right : (p : Play) (m : List ℕ) → Right p → p.begun ≡ true → length m ≡ 65536 → length (memory_lent p.ring m) ≡ p.ring.size * p.ring.parts
+pub memory_right : (p : Play) (m : List ℕ) → Right p → begun p ≡ true → length m ≡ 65536 → length (memory_lent (ring_of p) m) ≡ (ring_of p).size * (ring_of p).parts
 memory_right p m h b e =
-    let s = shaped p.ring.size p.ring.parts p.ring.producers (h b) in
-    length-take-le (p.ring.size * p.ring.parts) m (rw e (mul-le-mul s.size_high s.parts_high))
+    let s = shaped (ring_of p).size (ring_of p).parts (ring_of p).producers (h b) in
+    length-take-le ((ring_of p).size * (ring_of p).parts) m (rw e (mul-le-mul s.size_high s.parts_high))
 
-pub desks_right : (p : Play) (d : List ℕ) → Right p → p.begun ≡ true → length d ≡ 32768 → length (desks_lent p.ring d) ≡ p.ring.producers * p.ring.size
+pub desks_right : (p : Play) (d : List ℕ) → Right p → begun p ≡ true → length d ≡ 32768 → length (desks_lent (ring_of p) d) ≡ (ring_of p).producers * (ring_of p).size
 desks_right p d h b e =
-    let s = shaped p.ring.size p.ring.parts p.ring.producers (h b) in
-    length-take-le (p.ring.producers * p.ring.size) d (rw e (mul-le-mul s.producers_high s.size_high))
+    let s = shaped (ring_of p).size (ring_of p).parts (ring_of p).producers (h b) in
+    length-take-le ((ring_of p).producers * (ring_of p).size) d (rw e (mul-le-mul s.producers_high s.size_high))

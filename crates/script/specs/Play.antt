@@ -1,17 +1,19 @@
 -- Doing a line (document 01, "The replay program").
-use Rattle.std.specs.Prelude.{ℕ, ◌*◌, Bool, true, false, cond, List, ◌++◌, eqb, length, take, drop, replicate}
+use Rattle.std.specs.Prelude.{ℕ, ◌*◌, Bool, true, false, cond, List, [], ◌∷◌, ◌++◌, ◌==◌, length, take, drop, find, replicate, Option, Some, None, Result, Ok, Err}
+use Rattle.std.specs.Option.{option_map_or}
 use Rattle.counts.specs.Position.{position}
+use Rattle.ring.specs.declared.refusal.Refusal.{Refusal}
+use Rattle.ring.specs.declared.refusal.Refusal.TheVariants.{NotAllowed, OffStart, NoProducer, NotIdle, TooLong, Idle, NotReady, Holding, NotHolding, NoRow}
 use Rattle.ring.specs.declared.state.Answer.{Answer}
 use Rattle.ring.specs.declared.state.Ring.{Ring}
-use Rattle.ring.specs.Calls.{fresh_of, offer_of, offer_bytes, flush_of, step_of, step_bytes, get_of, put_of}
 use Rattle.runs.specs.Run.{run_of, run_bytes}
-use Rattle.ring.specs.State.{zeros, says}
+use Rattle.ring.specs.Calls.{answered, fresh_of, offer_of, offer_bytes, flush_of, step_of, step_bytes, get_of, put_of}
+use Rattle.ring.specs.State.{zeros}
+use Rattle.ring.specs.Told.{number_of}
 use Rattle.lines.specs.declared.line.Line.{Line}
-use Rattle.lines.specs.declared.line.Line.TheVariants.{New, Offer, Flush, Step, Run, Get, Put, Bad}
+use Rattle.lines.specs.declared.line.Line.TheVariants.{New, Offer, Flush, Step, Run, Get, Put}
 use Rattle.script.specs.declared.play.Play.{Play}
-
-abbrev pub play_of : (begun over : Bool) (answer : ℕ) (ring : Ring) → Play
-play_of begun over answer ring = record { begun = begun; over = over; answer = answer; ring = ring }
+use Rattle.script.specs.declared.play.Play.TheVariants.{Waiting, Going, Over}
 
 -- ---- what is lent: ring memory of exactly S-as-N bytes and desks of exactly P-as-S bytes, each the front of a larger buffer
 
@@ -31,7 +33,6 @@ answer_of r (Run p) memory desks = run_of r p (memory_lent r memory) (desks_lent
 answer_of r Get memory desks = get_of r
 answer_of r Put memory desks = put_of r
 answer_of r (New S N P start) memory desks = fresh_of S N P (position start)
-answer_of r Bad memory desks = says 0 r
 
 unfoldable pub memory_of : Ring → Line → (memory desks : List ℕ) → List ℕ
 memory_of r (Step p) memory desks = step_bytes r p (memory_lent r memory) (desks_lent r desks) ++ drop (r.size * r.parts) memory
@@ -41,7 +42,6 @@ memory_of r (Offer p kind L) memory desks = memory
 memory_of r (Flush p) memory desks = memory
 memory_of r Get memory desks = memory
 memory_of r Put memory desks = memory
-memory_of r Bad memory desks = memory
 
 -- payload is L bytes equal to kind
 unfoldable pub desks_of : Ring → Line → (desks : List ℕ) → List ℕ
@@ -52,15 +52,41 @@ desks_of r (Step p) desks = desks
 desks_of r (Run p) desks = desks
 desks_of r Get desks = desks
 desks_of r Put desks = desks
-desks_of r Bad desks = desks
 
 -- ---- the program
 
 -- before the first line
 abbrev pub start_play : Play
-start_play = play_of false false 0 zeros
+start_play = Waiting
 
--- a line of one of the forms; the first one must be a new
+-- whether a ring was made; the ring, all zeros before that; whether a bad line has ended the program
+abbrev pub begun : Play → Bool
+begun Waiting = false
+begun (Going r answer) = true
+begun Over = false
+
+abbrev pub ring_of : Play → Ring
+ring_of Waiting = zeros
+ring_of (Going r answer) = r
+ring_of Over = zeros
+
+abbrev pub over : Play → Bool
+over Waiting = false
+over (Going r answer) = false
+over Over = true
+
+-- what was answered where document 01 has a number: 0 for done, or the refusal's
+abbrev pub refusals : List Refusal
+refusals = NotAllowed ∷ OffStart ∷ NoProducer ∷ NotIdle ∷ TooLong ∷ Idle ∷ NotReady ∷ Holding ∷ NotHolding ∷ NoRow ∷ []
+
+abbrev pub answer_at : (code : ℕ) → Result Unit Refusal
+answer_at code = option_map_or Err (find (λ r. number_of r == code) refusals) (Ok tt)
+
+-- a ring that was made, and what it was answered
+abbrev pub play_of : Answer → Play
+play_of a = Going a.ring (answer_at a.code)
+
+-- a line that may stand where it does: the first one must be a new
 abbrev pub allowed : (begun : Bool) → Line → Bool
 allowed begun (New S N P start) = true
 allowed begun (Offer p kind L) = begun
@@ -69,21 +95,26 @@ allowed begun (Step p) = begun
 allowed begun (Run p) = begun
 allowed begun Get = begun
 allowed begun Put = begun
-allowed begun Bad = false
 
--- a bad line ends the program
-abbrev pub ended_of : Play → Play
-ended_of p = play_of p.begun true p.answer p.ring
+-- a refused call keeps the old ring, a new's too
+abbrev pub kept_of : Ring → Answer → Answer
+kept_of r a = answered a.code a.ring r
 
--- a refused call keeps the old ring; a refused first new ends the program
+-- a refused first new ends the program
 unfoldable pub answered_of : Play → Answer → Play
-answered_of p a = cond (eqb a.code 0) (play_of true false 0 a.ring) (cond p.begun (play_of true false a.code p.ring) (ended_of p))
+answered_of Waiting a = cond (a.code == 0) (play_of a) Over
+answered_of (Going r answer) a = play_of (kept_of r a)
+answered_of Over a = Over
 
-unfoldable pub done_of : Play → Line → (memory desks : List ℕ) → Play
-done_of p line memory desks = cond (allowed p.begun line) (answered_of p (answer_of p.ring line memory desks)) (ended_of p)
+-- a bad line, which is none, ends the program
+unfoldable pub done_of : Play → Option Line → (memory desks : List ℕ) → Play
+done_of p None memory desks = Over
+done_of p (Some line) memory desks = cond (allowed (begun p) line) (answered_of p (answer_of (ring_of p) line memory desks)) Over
 
-unfoldable pub done_memory : Play → Line → (memory desks : List ℕ) → List ℕ
-done_memory p line memory desks = cond (allowed p.begun line) (memory_of p.ring line memory desks) memory
+unfoldable pub done_memory : Play → Option Line → (memory desks : List ℕ) → List ℕ
+done_memory p None memory desks = memory
+done_memory p (Some line) memory desks = cond (allowed (begun p) line) (memory_of (ring_of p) line memory desks) memory
 
-unfoldable pub done_desks : Play → Line → (desks : List ℕ) → List ℕ
-done_desks p line desks = cond (allowed p.begun line) (desks_of p.ring line desks) desks
+unfoldable pub done_desks : Play → Option Line → (desks : List ℕ) → List ℕ
+done_desks p None desks = desks
+done_desks p (Some line) desks = cond (allowed (begun p) line) (desks_of (ring_of p) line desks) desks

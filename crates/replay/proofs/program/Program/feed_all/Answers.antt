@@ -1,30 +1,26 @@
 -- `replay::program::Program::feed_all` meets its contract.
-use Rattle.std.proofs.Common.{◌∙◌, take, arith, rules, sym}
-use Rattle.replay.specs.Program.{state_of}
-use Rattle.replay.specs.ProgramLaws.{fed_on, said_on, fed_none, said_none}
+use Rattle.std.proofs.Common.{◌≡◌, ◌+◌, ◌*◌, ◌≤◌, ◌++◌, length, get_or, append-nil, ◌∙◌, arith, rules}
+use Rattle.replay.specs.Program.{said_of}
+use Rattle.replay.specs.ProgramLaws.{fed_on, said_on}
+use Rattle.replay.specs.declared.text.TheConstants.{LINE}
 use Rattle.replay.proofs.program.Program.feed_all.Goals as goal
+use Rattle.replay.proofs.program.Program.feed_all.Goals.{then-feed, else-feed}
 
-pub loop-i-preserved : goal.loop-i-preserved
-loop-i-preserved c =
-    let a = c.args in
-    let l = c.loop-i in
-    let t = c.loop-i-test.true in
-    let s = state_of l.next l.memory l.desks in
-    let e = c.feed-next.ensures in
+pub loop-b-preserved : goal.loop-b-preserved
+loop-b-preserved c =
+    let t = c.args.text.now in
+    let l = c.loop-b in
+    let o = c.if-feed.out in
+    let e = c.feed.ensures in
+    let few : length o.bytes ≤ LINE * (l.b-index + 1) =
+    elim c.if-feed.branch [ then-feed w ↦ rw w.out-is (omega (arith, w.tell.ensures.upper_bound)) | else-feed w ↦ rw w.out-is (omega arith) ] in
+    let more : o.bytes ≡ l.out.bytes ++ said_of l.self (get_or t l.b-index 0) =
+    elim c.if-feed.branch [
+      | then-feed w ↦ rw (w.out-is, e.printed, w.if-feed.true) w.tell.ensures.out_after
+      | else-feed w ↦ rw (w.out-is, e.printed, w.if-feed.false, append-nil l.out.bytes)
+    ] in
     record {
-      in_range = omega (arith, t);
-      few = omega (arith, e.used_bound);
-      fed = fed_on s _ a.text.now l.i t e.desks_after ∙ l.invariant.fed;
-      said = said_on s _ a.text.now l.i t e.desks_after (take l.next.used l.out) _ e.out_after ∙ l.invariant.said;
-    }
-
-pub returns : goal.returns
-returns c =
-    let a = c.args in
-    let l = c.loop-i in
-    let s = state_of l.next l.memory l.desks in
-    record {
-      used_in_bounds = omega arith;
-      desks_after = sym (fed_none s a.text.now l.i (search rules)) ∙ l.invariant.fed;
-      out_after = sym (said_none s a.text.now l.i (search rules) (take l.next.used l.out)) ∙ l.invariant.said;
+      few = few;
+      fed = fed_on l.self _ t l.b-index (search rules) e.program_after ∙ l.invariant.fed;
+      said = said_on l.self _ t l.b-index (search rules) e.program_after l.out.bytes _ more ∙ l.invariant.said;
     }

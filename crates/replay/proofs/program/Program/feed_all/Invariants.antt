@@ -1,16 +1,13 @@
 -- What was made of the bytes so far, and the bytes that are left, make the whole.
-use Rattle.std.proofs.Common.{◌≡◌, ◌-◌, ◌*◌, ◌≤◌, ◌++◌, length, take, drop}
-use Rattle.replay.specs.Program.{state_of, fed_all, said_all}
+use Rattle.std.proofs.Common.{◌≡◌, ◌*◌, ◌≤◌, ◌++◌, length, drop}
+use Rattle.replay.specs.Program.{fed_all, said_all}
+use Rattle.replay.specs.declared.text.TheConstants.{LINE}
 use Rattle.replay.proofs.program.Program.feed_all.Given as goal
 
-abbrev pub invariant-loop-i : goal.invariant-loop-i
-invariant-loop-i l =
+abbrev pub invariant-loop-b : goal.invariant-loop-b
+invariant-loop-b l =
     record {
-      in_range : l.i ≤ length l.text;
-      few : l.next.used ≤ 66 * l.i;
-      fed : fed_all (state_of l.next l.memory l.desks) (drop l.i l.text) ≡ fed_all (state_of l.initial.next l.initial.memory l.initial.desks) l.text;
-      said : take l.next.used l.out ++ said_all (state_of l.next l.memory l.desks) (drop l.i l.text) ≡ said_all (state_of l.initial.next l.initial.memory l.initial.desks) l.text;
+      few : length l.out.bytes ≤ LINE * l.b-index;
+      fed : fed_all l.self (drop l.b-index l.text) ≡ fed_all l.initial.self l.text;
+      said : l.out.bytes ++ said_all l.self (drop l.b-index l.text) ≡ said_all l.initial.self l.text;
     }
-
-abbrev pub decreases-loop-i : goal.decreases-loop-i
-decreases-loop-i l = length l.text - l.i

@@ -1,20 +1,43 @@
 -- `script::play::Play::does` meets its contract.
-use mathlib.Core.Path.{refl, sym, ap, ◌∙◌}
+use Rattle.std.proofs.Common.{sym, ap, ◌∙◌}
 use Rattle.ring.specs.declared.state.Answer.{Answer}
-use Rattle.script.specs.Play.{answered_of, done_of, done_memory, done_desks}
+use Rattle.script.specs.Play.{play_of, done_memory, done_desks}
+use Rattle.script.specs.PlayLaws.{play_told, done_going, first_alone, unmade_memory, unmade_desks, over_stays}
 use Rattle.script.proofs.play.Play.does.Goals as goal
 
-pub returns-then-not-is_allowed : goal.returns-then-not-is_allowed
-unfolding done_of done_memory done_desks
-returns-then-not-is_allowed c =
-    let w = c.is_allowed in
-    rw (sym w.ensures, c.if-not-is_allowed.true) (record { value = c.ended.ensures; memory_after = refl; desks_after = refl })
+pub returns-in-Waiting-clause-value : goal.returns-in-Waiting-clause-value
+returns-in-Waiting-clause-value c =
+    rw (c.in-Some.is, c.in-Waiting.is) (c.first.ensures ∙ first_alone c.in-Some.line c.args.memory.now c.args.desks.now)
 
-pub returns : goal.returns
-unfolding done_of done_memory done_desks
-returns c =
+pub returns-in-Waiting-clause-memory_after : goal.returns-in-Waiting-clause-memory_after
+unfolding done_memory
+returns-in-Waiting-clause-memory_after c =
+    rw (c.in-Some.is, c.in-Waiting.is) (sym (unmade_memory c.in-Some.line c.args.memory.now c.args.desks.now))
+
+pub returns-in-Waiting-clause-desks_after : goal.returns-in-Waiting-clause-desks_after
+unfolding done_desks
+returns-in-Waiting-clause-desks_after c =
+    rw (c.in-Some.is, c.in-Waiting.is) (sym (unmade_desks c.in-Some.line c.args.desks.now))
+
+pub returns-in-Going-clause-value : goal.returns-in-Going-clause-value
+returns-in-Going-clause-value c =
     let a = c.args in
-    let w = c.is_allowed in
-    let e = c.call.ensures in
-    rw (sym w.ensures, c.if-not-is_allowed.false)
-    (record { value = c.answered.ensures ∙ ap (λ (x : Answer). answered_of a.self x) e.value; memory_after = e.memory_after; desks_after = e.desks_after })
+    let g = c.in-Going in
+    rw (c.in-Some.is, g.is)
+    (sym (play_told c.call.result c.call.new.ring)
+    ∙ ap (λ (x : Answer). play_of x) c.call.ensures.value
+    ∙ sym (done_going g.ring g.answer c.in-Some.line a.memory.now a.desks.now))
+
+pub returns-in-Over-clause-value : goal.returns-in-Over-clause-value
+returns-in-Over-clause-value c =
+    rw (c.in-Some.is, c.in-Over.is) (sym (over_stays c.in-Some.line c.args.memory.now c.args.desks.now))
+
+pub returns-in-Over-clause-memory_after : goal.returns-in-Over-clause-memory_after
+unfolding done_memory
+returns-in-Over-clause-memory_after c =
+    rw (c.in-Some.is, c.in-Over.is) (sym (unmade_memory c.in-Some.line c.args.memory.now c.args.desks.now))
+
+pub returns-in-Over-clause-desks_after : goal.returns-in-Over-clause-desks_after
+unfolding done_desks
+returns-in-Over-clause-desks_after c =
+    rw (c.in-Some.is, c.in-Over.is) (sym (unmade_desks c.in-Some.line c.args.desks.now))
