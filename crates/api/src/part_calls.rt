@@ -1,4 +1,4 @@
-// Reading a part back and laying one out. Enums cross as document 01's numbers.
+// Reading a part back and laying one out. Refusals cross as document 01's numbers.
 ghost use Rattle.std.specs.Prelude.{◌≡◌, length};
 ghost use Rattle.parts.specs.Part.{decode_of, lay_out_of, lay_out_bytes};
 ghost use Rattle.parts.specs.Plain.{plain};

@@ -1,4 +1,4 @@
-// The functions of `layout` and `parts`: enums cross as document 01's numbers, a returned part as a copy.
+// The functions of `layout` and `parts`: refusals cross as document 01's numbers, a returned part as a copy.
 ghost use Rattle.std.specs.Prelude.{◌≡◌, length};
 ghost use Rattle.layout.specs.Bytes.{copied};
 ghost use Rattle.layout.specs.Header.{opened, used_set};
@@ -25,10 +25,9 @@ pub extern "C" fn layout_run(part: &[u8], out: &mut [u8]) -> usize
 {
     let run = parts::part::run(part);
     let n = run.len();
-    if out.len() < n {
-        return n;
+    if n <= out.len() {
+        out[..n].copy_from_slice(run);
     }
-    layout::bytes::copy(run, &mut out[..n]);
     n
 }
 

@@ -3,15 +3,12 @@
 #![tactic(auto)]
 
 use counts::position::Position;
-use parts::part::Decoded;
 
 // Prints the bytes of a slice in hexadecimal, each followed by a space, and a line end.
 fn print_bytes(s: &[u8]) {
-    let mut i = 0;
-    while i < s.len() {
-        io::print_hex(1, s[i] as u64, 2);
+    for b in s {
+        io::print_hex(1, u64::from(*b), 2);
         io::write_all(1, b" ");
-        i += 1;
     }
     io::write_all(1, b"\n");
 }
@@ -22,22 +19,14 @@ fn print_word(word: &[u8], n: u64) {
 }
 
 fn print_decoded(part: &[u8]) {
-    let decoded = parts::part::decode(part);
-    match decoded {
-        Decoded::Part {
-            position,
-            lost,
-            used,
-            records,
-        } => {
-            print_word(b"position ", position.0 as u64);
-            print_word(b" lost ", lost as u64);
-            print_word(b" used ", used as u64);
-            print_word(b" records ", records as u64);
+    match parts::part::decode(part) {
+        Ok(decoded) => {
+            print_word(b"position ", u64::from(decoded.position.0));
+            print_word(b" lost ", u64::from(decoded.lost));
+            print_word(b" used ", u64::from(decoded.used));
+            print_word(b" records ", decoded.records as u64);
         }
-        Decoded::Refused(r) => {
-            print_word(b"refused ", parts::refusal::number(r) as u64);
-        }
+        Err(why) => print_word(b"refused ", u64::from(u32::from(why))),
     }
     io::write_all(1, b"\n");
 }
@@ -46,8 +35,8 @@ fn main() {
     let mut desk = [0u8; 64];
     layout::record::lay_record(&mut desk, b"\x01\x01", 1, 0);
     let mut part = [255u8; 64];
-    parts::part::lay_out(&desk[0..6], Position(0), 0, &mut part);
-    print_bytes(&part[0..22]);
+    parts::part::lay_out(&desk[..6], Position(0), 0, &mut part).unwrap();
+    print_bytes(&part[..22]);
     print_decoded(&part);
     print_bytes(parts::part::run(&part));
 }
