@@ -12,8 +12,7 @@ use text::{Out, PART};
 
 // Reads the input to its end, in parts. A proved loop has to end, and nothing says that the input does: so the loop counts its turns
 // up to a number that no run reaches. A read that fails counts as the end; a write that fails is let go.
-fn replay(input: &mut Stdin, output: &mut Stdout) {
-    let mut program = Program::start();
+fn replay(input: &mut Stdin, output: &mut Stdout, program: &mut Program) {
     let mut text = [0u8; PART];
     let mut out = Out::new();
     for _ in 0..u64::MAX {
@@ -31,5 +30,6 @@ fn replay(input: &mut Stdin, output: &mut Stdout) {
 }
 
 fn main(rt: HostRuntime) {
-    replay(&mut rt.stdin(), &mut rt.stdout());
+    let mut program = Program::start();
+    replay(&mut rt.stdin(), &mut rt.stdout(), &mut program);
 }
