@@ -9,13 +9,18 @@ use super::text::{Out, tell};
 use lines::reading::Reading;
 use script::play::Play;
 
+// The most that a ring asks for: S-as-N bytes of ring memory, P-as-S bytes of desks.
+const MEMORY: usize = 65536;
+
+const DESKS: usize = 32768;
+
 // The line that is being read, the ring and what was answered last, and the buffers for ring memory and desks.
 #[derive(Drop)]
 pub struct Program {
     pub reading: Reading,
     pub play: Play,
-    pub memory: [u8; 65536],
-    pub desks: [u8; 32768],
+    pub memory: [u8; MEMORY],
+    pub desks: [u8; DESKS],
 }
 
 impl Program {
@@ -26,8 +31,8 @@ impl Program {
         Program {
             reading: Reading::start(),
             play: Play::start(),
-            memory: [0; 65536],
-            desks: [0; 32768],
+            memory: [0; MEMORY],
+            desks: [0; DESKS],
         }
     }
 
