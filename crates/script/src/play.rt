@@ -9,7 +9,7 @@ use ring::refusal::Refusal;
 use ring::state::Ring;
 
 // How far the program has come.
-#[derive(Clone, Copy)]
+#[derive(Clone, Copy, Debug, PartialEq, Eq)]
 pub enum Play {
     // No line was done.
     Waiting,
