@@ -1,11 +1,11 @@
 -- Reading a line byte by byte gives the line that its text is: `reads`. A reading that has taken a byte is not empty: `take_begun`.
 use Prim.Native.Nat.{ℕ, zero, suc, ◌+◌, ◌-◌, ◌*◌, ◌≤◌, ◌<◌}
-use Rattle.std.specs.Prelude.{Bool, ◌≡◌, T, eqb, ltb, leb, length, slice_get, slice_index, Option, Some, None}
+use Rattle.std.specs.Prelude.{Bool, ◌≡◌, ◌%◌, T, eqb, ltb, leb, length, slice_get, slice_index, Option, Some, None}
 use Rattle.std.specs.Option.{unwrap_or}
 use Rattle.std.proofs.Math.Bool.{true, false, cond}
 use mathlib.Core.List.{List, [], ◌∷◌}
 use Rattle.std.proofs.Math.Path.{refl, ap}
-use Rattle.std.proofs.Common.{sym, subst, ◌∙◌, rules}
+use Rattle.std.proofs.Common.{sym, subst, ◌∙◌, arith, rules}
 use native.Mathlib.Omega.{arith}
 use borrow.Author.Tests.{eq-eqb, ne_eqb, eqb-true, le-leb, lt-leb, lt-ltb, le-ltb, leb-true, leb-false}
 use Rattle.std.proofs.lemmas.Bool.{eqb-false, cond_both}
@@ -269,8 +269,10 @@ offer_made fs e =
     let k = fit_one 255 (65535 ∷ []) p.1 p.4 in
     let l = fit_one 65535 [] k.1 k.4 in
     let shape : fs ≡ p.0 ∷ k.0 ∷ l.0 ∷ [] = p.2 ∙ behind p.0 (k.2 ∙ behind k.0 (l.2 ∙ behind l.0 (fit_none l.1 l.4))) in
+    let kind : value_of k.0 % 256 ≡ value_of k.0 = omega (arith, within 255 k.0 k.3) in
+    let long : value_of l.0 % 65536 ≡ value_of l.0 = omega (arith, within 65535 l.0 l.3) in
     subst (λ (x : List (List ℕ)). line_from Offer x ≡ Some (line.Offer (number 0 x) (number 1 x) (number 2 x))) (sym shape)
-    (rw (le-leb (value_of k.0) 255 (within 255 k.0 k.3), le-leb (value_of l.0) 65535 (within 65535 l.0 l.3)))
+    (λ i. Some (line.Offer (value_of p.0) (kind i) (long i)))
 
 none_made : (k : Word) (fs : List (List ℕ)) → fit [] fs ≡ true → line_from k fs ≡ bare_of k
 none_made k fs e = subst (λ (x : List (List ℕ)). line_from k x ≡ bare_of k) (sym (fit_none fs e)) refl

@@ -1,5 +1,5 @@
 -- Reading a line byte by byte: what the bytes so far come to, and what the next byte makes of that.
-use Rattle.std.specs.Prelude.{ℕ, ◌+◌, ◌-◌, ◌*◌, Bool, true, false, cond, List, [], ◌∷◌, eqb, ltb, leb, length, Option, Some, None, slice_get, slice_index}
+use Rattle.std.specs.Prelude.{ℕ, ◌+◌, ◌-◌, ◌*◌, ◌%◌, Bool, true, false, cond, List, [], ◌∷◌, eqb, ltb, leb, length, Option, Some, None, slice_get, slice_index}
 use Rattle.std.specs.Option.{unwrap_or}
 use Rattle.lines.specs.declared.line.Line.{Line}
 use Rattle.lines.specs.declared.line.Line.TheVariants as line
@@ -81,8 +81,7 @@ bare_of word = None
 -- the line of a word and its numbers
 abbrev pub made_of : Word → (before : List ℕ) → (last : ℕ) → Option Line
 made_of New before last = Some (line.New (slice_index before 0) (slice_index before 1) (slice_index before 2) last)
-made_of Offer before last =
-    cond (leb (slice_index before 2) 255) (cond (leb last 65535) (Some (line.Offer (slice_index before 1) (slice_index before 2) last)) None) None
+made_of Offer before last = Some (line.Offer (slice_index before 1) (slice_index before 2 % 256) (last % 65536))
 made_of Flush before last = Some (line.Flush last)
 made_of Step before last = Some (line.Step last)
 made_of Run before last = Some (line.Run last)

@@ -11,7 +11,8 @@ use super::word::Word;
 pub enum Reading {
     // There are none.
     Start,
-    // They are the first letters of a word, and read says how many.
+    // They are the first letters of a word, and read says how many. No slice of the letters to come: a reference has an address, of
+    // which the clauses would speak too.
     Letters {
         word: Word,
         read: usize,
@@ -101,7 +102,8 @@ fn made(word: Word, before: [u32; 3], last: u32) -> Option<Line>
     let [a, b, c] = before;
     match word {
         Word::New => Some(Line::New(a, b, c, last)),
-        Word::Offer => Some(Line::Offer(b, u8::try_from(c).ok()?, u16::try_from(last).ok()?)),
+        // A kind or an L past its limit never comes here (reads); if it did, it would be cut off as made_of says.
+        Word::Offer => Some(Line::Offer(b, (c % 256) as u8, (last % 65536) as u16)),
         Word::Flush => Some(Line::Flush(last)),
         Word::Step => Some(Line::Step(last)),
         Word::Run => Some(Line::Run(last)),

@@ -3,6 +3,7 @@ pub mod Written
 pub mod WrittenLaws
 pub mod Text
 pub mod TextLaws
+pub mod BufferLaws
 pub mod Program
 pub mod ProgramLaws
 pub mod Output

@@ -1,6 +1,6 @@
 -- What a line prints (document 01, "The replay program"): answer, write, read, offered, written, lost, or `bad line`.
 use Rattle.std.specs.Prelude.{ℕ, zero, suc, ◌+◌, ◌/◌, ◌%◌, cond, List, [], ◌∷◌, ◌++◌, eqb, ltb}
-use Rattle.ring.specs.Told.{code_of}
+use Rattle.ring.specs.Told.{code_told}
 use Rattle.script.specs.declared.play.Play.{Play}
 use Rattle.script.specs.declared.play.Play.TheVariants.{Waiting, Going, Over}
 use Rattle.script.specs.Play.{ring_of, over}
@@ -26,7 +26,7 @@ joined i (n ∷ ns) = (decimal_of n ++ (end_of i ∷ [])) ++ joined (suc i) ns
 -- what a play's last line was answered, and the counts of its ring; before the first line all are zero
 abbrev pub code_in : Play → ℕ
 code_in Waiting = 0
-code_in (Going r answer) = code_of answer
+code_in (Going r answer) = code_told answer
 code_in Over = 0
 
 abbrev pub numbers_told : Play → List ℕ

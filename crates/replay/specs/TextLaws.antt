@@ -10,17 +10,17 @@ use Rattle.replay.specs.Text.{decimal_by, decimal_of, end_of, joined, numbers_to
 -- ---- decimal
 
 -- the digits that the library prints are those of document 01's decimal
-pub decimal_digits : (k n : ℕ) → n < 2 ^ 64 → length (decimal n) ≤ k → decimal n ≡ decimal_by k n
+pub printed_digits : (k n : ℕ) → n < 2 ^ 64 → length (decimal n) ≤ k → decimal n ≡ decimal_by k n
 unfolding decimal_by
-decimal_digits k n h l = sym (decimal_from_appends decimal_by (search rules) k n h l)
+printed_digits k n h l = sym (decimal_from_appends decimal_by (search rules) k n h l)
 
 -- a 32-bit number has ten digits at most
-pub ten_digits : (n : ℕ) → n < 2 ^ 32 → length (decimal n) ≤ 10
-ten_digits n h = length-decimal-le 10 n (omega arith) (omega arith) (omega arith)
+pub printed_ten : (n : ℕ) → n < 2 ^ 32 → length (decimal n) ≤ 10
+printed_ten n h = length-decimal-le 10 n (omega arith) (omega arith) (omega arith)
 
 -- a number behind a text
 pub decimal_printed : (n : ℕ) → n < 2 ^ 32 → decimal n ≡ decimal_of n
-decimal_printed n h = decimal_digits 10 n (omega arith) (ten_digits n h)
+decimal_printed n h = printed_digits 10 n (omega arith) (printed_ten n h)
 
 -- ---- the six numbers
 

@@ -7,12 +7,13 @@ mod program;
 mod text;
 
 use program::Program;
-use std::io::{Read, Stdin, Stdout, Write};
+use std::io::{Read, Stdin};
 use text::{Out, PART};
 
 // Reads the input to its end, in parts. A proved loop has to end, and nothing says that the input does: so the loop counts its turns
-// up to a number that no run reaches. A read that fails counts as the end; a write that fails is let go.
-fn replay(input: &mut Stdin, output: &mut Stdout, program: &mut Program) {
+// up to a number that no run reaches. A read that fails counts as the end, and a write that fails is let go: by the kit's io, since std's
+// Stdout would try a write that a signal stops once more, and what the program does stays.
+fn replay(input: &mut Stdin, program: &mut Program) {
     let mut text = [0u8; PART];
     let mut out = Out::new();
     for _ in 0..u64::MAX {
@@ -22,7 +23,7 @@ fn replay(input: &mut Stdin, output: &mut Stdout, program: &mut Program) {
         } else {
             program.feed_all(&text[..n], &mut out);
         }
-        let _ = output.write_all(out.as_bytes());
+        io::write_all(1, out.as_bytes());
         if n == 0 || program.is_over() {
             return;
         }
@@ -31,5 +32,5 @@ fn replay(input: &mut Stdin, output: &mut Stdout, program: &mut Program) {
 
 fn main(rt: HostRuntime) {
     let mut program = Program::start();
-    replay(&mut rt.stdin(), &mut rt.stdout(), &mut program);
+    replay(&mut rt.stdin(), &mut program);
 }

@@ -12,8 +12,8 @@ use script::play::Play;
 // A number prints 11 bytes at most: ten digits, and the byte that ends it.
 pub(crate) const NUMBER: usize = 11;
 
-// A line prints 66 bytes at most: six numbers.
-pub(crate) const LINE: usize = 66;
+// A line prints six numbers at most.
+pub(crate) const LINE: usize = 6 * NUMBER;
 
 // How many bytes of the input are read at a time.
 pub(crate) const PART: usize = 990;

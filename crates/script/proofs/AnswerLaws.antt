@@ -4,7 +4,7 @@ use Rattle.counts.specs.Shape.{shape_of}
 use Rattle.ring.specs.declared.state.Ring.{Ring}
 use Rattle.ring.specs.Refusals.{first, known_of, fresh_refusal, offer_refusal, flush_refusal, step_refusal, get_refusal, put_refusal}
 use Rattle.ring.specs.Calls.{fresh_of, offer_of, flush_of, step_of, get_of, put_of}
-use Rattle.ring.specs.Told.{code_of}
+use Rattle.ring.specs.Told.{code_told}
 use Rattle.runs.specs.Run.{run_of}
 use Rattle.lines.specs.declared.line.Line.{Line}
 use Rattle.lines.specs.declared.line.Line.TheVariants.{New, Offer, Flush, Step, Run, Get, Put}
@@ -12,7 +12,7 @@ use Rattle.script.specs.Play.{answer_of, answer_at}
 
 -- 0, or a refusal's number
 abbrev Named : ℕ → Type 0
-Named n = code_of (answer_at n) ≡ n
+Named n = code_told (answer_at n) ≡ n
 
 choice : (t : Bool) (x y : ℕ) → Named x → Named y → Named (cond t x y)
 choice true x y h k = h

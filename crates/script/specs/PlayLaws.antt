@@ -9,12 +9,13 @@ use Rattle.ring.specs.declared.state.Answer.{Answer}
 use Rattle.ring.specs.declared.state.Ring.{Ring}
 use Rattle.ring.specs.Calls.{answered, fresh_of}
 use Rattle.ring.specs.State.{zeros, says}
-use Rattle.ring.specs.Told.{number_of, code_of, told}
+use Rattle.ring.specs.Told.{number_of, code_told, told}
 use Rattle.ring.specs.ToldLaws.{numbered}
 use Rattle.lines.specs.declared.line.Line.{Line}
 use Rattle.lines.specs.declared.line.Line.TheVariants.{New, Offer, Flush, Step, Run, Get, Put}
+use Rattle.script.specs.declared.play.Play.{Play}
 use Rattle.script.specs.declared.play.Play.TheVariants.{Waiting, Going, Over}
-use Rattle.script.specs.Play.{memory_lent, desks_lent, answer_of, memory_of, desks_of, answer_at, play_of, allowed, kept_of, answered_of, done_of}
+use Rattle.script.specs.Play.{memory_lent, desks_lent, answer_of, memory_of, desks_of, answer_at, play_of, begun, allowed, kept_of, answered_of, done_of}
 
 -- ---- the front of a buffer that is lent, and what stands behind it
 
@@ -37,7 +38,7 @@ module _ (r : Ring) (memory desks : List ℕ) (b d : ℕ) (memory-is : b ≡ min
 -- ---- the program
 
 -- a number says what was answered
-answer_back : (answer : Result Unit Refusal) → answer_at (code_of answer) ≡ answer
+answer_back : (answer : Result Unit Refusal) → answer_at (code_told answer) ≡ answer
 answer_back (Ok _) = refl
 answer_back (Err NotAllowed) = refl
 answer_back (Err OffStart) = refl
@@ -126,3 +127,10 @@ over_stays line memory desks = go (allowed false line)
     go : (t : Bool) → cond t Over Over ≡ Over
     go true = refl
     go false = refl
+
+-- a first new that is refused ends it
+pub answered_ended : (p : Play) (a : Answer) → (a.code ≡ 0 → ⊥) → begun p ≡ false → answered_of p a ≡ Over
+unfolding answered_of
+answered_ended Waiting a n e = rw (ne_eqb a.code 0 n)
+answered_ended (Going r answer) a n e = cc
+answered_ended Over a n e = refl

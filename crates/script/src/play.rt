@@ -37,6 +37,7 @@ fn payload_of(kind: u8) -> [u8; 65536]
 }
 
 // Makes the call of a line, with as much memory as the ring asks for. A new makes another ring; where it is refused, the old one stays.
+// Memory and desks are two slices for the reason at Ring::step, and longer than what is lent of them, since there is no heap.
 #[tactic(auto, unfolding(crate::specs::Play::answer_of, crate::specs::Play::memory_of, crate::specs::Play::desks_of))]
 fn call(ring: &mut Ring, line: Line, memory: &mut [u8], desks: &mut [u8]) -> Result<(), Refusal>
     ensures value { told result ring.new ≡ kept_of ring.old (answer_of ring.old line memory.old desks.old) }

@@ -6,8 +6,8 @@ use counts::position::Position;
 
 // Prints the bytes of a slice in hexadecimal, each followed by a space, and a line end.
 fn print_bytes(s: &[u8]) {
-    for b in s {
-        io::print_hex(1, u64::from(*b), 2);
+    for &b in s {
+        io::print_hex(1, u64::from(b), 2);
         io::write_all(1, b" ");
     }
     io::write_all(1, b"\n");
