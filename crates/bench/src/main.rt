@@ -9,7 +9,8 @@ use counts::count::Count;
 use counts::position::Position;
 use ring::state::Ring;
 
-// The decimal number that a text begins with, and the text behind the character that ends it.
+// The decimal number that a text begins with, and the text behind the character that ends it. Read by hand, a byte above the digits too:
+// what the program makes of any input stays.
 fn number(text: &[u8]) -> (u32, &[u8]) {
     let mut value: u32 = 0;
     for (i, &b) in text.iter().enumerate() {
@@ -21,7 +22,7 @@ fn number(text: &[u8]) -> (u32, &[u8]) {
     (value, &text[..0])
 }
 
-// One event: an offer, and steps until the producer is idle.
+// One event: an offer, and steps until the producer is idle. Memory and desks are two slices for the reason at Ring::step.
 fn event(ring: &mut Ring, p: u32, payload: &[u8], memory: &mut [u8], desks: &mut [u8]) {
     let i = p as usize;
     if 8 <= i || ring.offer(p, 7, payload, desks).is_err() {
@@ -48,6 +49,7 @@ fn sum(memory: &[u8]) -> u64 {
         .fold(0u64, |total, &b| total.wrapping_add(u64::from(b)))
 }
 
+// By the kit's io, which lets a write that fails go: println! would end the program with another status.
 fn print_line(n: u64) {
     io::print_decimal(1, n);
     io::write_all(1, b"\n");

@@ -1,4 +1,5 @@
-// The functions of `counts`, on plain numbers. A `Position` or a `Commit` crosses as the u32 that it holds.
+// The functions of `counts`, on plain numbers, under names of their own for each type: C has no methods. A `Position` or a `Commit` crosses
+// as the u32 that it holds, a lap as S and N.
 ghost use Rattle.std.specs.Prelude.{◌%◌, ◌/◌, ◌≡◌};
 ghost use Rattle.counts.specs.Commit.{commit, on_of, past_of, raises_of, ready_of, round_of};
 ghost use Rattle.counts.specs.Place.{place_of, full_of};

@@ -24,6 +24,8 @@ pub(crate) const ROOM: usize = PART * LINE;
 // What is to be printed.
 pub(crate) type Out = ArrayString<ROOM>;
 
+// What room is left stands in the contracts here: push_str asks for it, and no type knows how many lines are to come.
+
 // A number in decimal and the byte that ends it.
 fn put_number(out: &mut Out, n: u32, end: char)
     requires room { array_string_len out.old + NUMBER ≤ ROOM }
