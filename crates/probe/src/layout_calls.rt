@@ -1,4 +1,5 @@
 // The functions of `layout` and `parts`: refusals cross as document 01's numbers, a returned part as a copy.
+// `layout_decode` and `layout_lay_out` are api's two under other names: this library stands without that one.
 ghost use Rattle.std.specs.Prelude.{◌≡◌, length};
 ghost use Rattle.layout.specs.Bytes.{copied};
 ghost use Rattle.layout.specs.Header.{opened, used_set};
