@@ -1,4 +1,4 @@
-// The calls of the ring.
+// The calls of the ring. S, N and P, and ring memory and desks, cross one by one, as C has them.
 ghost use Rattle.std.specs.Prelude.{◌≡◌, length};
 ghost use Rattle.counts.specs.Position.{position};
 ghost use Rattle.ring.specs.Calls.{fresh_of, offer_of, offer_bytes, flush_of, step_of, step_bytes, get_of, put_of, span_of, ready_count_of};

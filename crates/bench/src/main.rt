@@ -49,13 +49,14 @@ fn sum(memory: &[u8]) -> u64 {
         .fold(0u64, |total, &b| total.wrapping_add(u64::from(b)))
 }
 
-// By the kit's io, which lets a write that fails go: println! would end the program with another status.
+// By the kit's io, which stops where a write fails or a signal stops it: println! would try the latter once more, and what the program
+// does stays.
 fn print_line(n: u64) {
     io::print_decimal(1, n);
     io::write_all(1, b"\n");
 }
 
-// Runs the events and prints what came of them.
+// Runs the events and prints what came of them. Two slices, as in event.
 fn run(ring: &mut Ring, p: u32, payload: &[u8], events: u32, memory: &mut [u8], desks: &mut [u8]) {
     for _ in 0..events {
         event(ring, p, payload, memory, desks);
@@ -89,6 +90,7 @@ fn main() {
     let Ok(mut ring) = Ring::fresh(size, parts, producers, Position(0)) else {
         return;
     };
+    // No heap: the most that a ring asks for, of which run gets what this one does.
     let mut memory = io::large_buffer();
     let mut desks = io::large_buffer();
     let payload = io::buffer();

@@ -14,7 +14,8 @@ const MEMORY: usize = 65536;
 
 const DESKS: usize = 32768;
 
-// The line that is being read, the ring and what was answered last, and the buffers for ring memory and desks.
+// The line that is being read, the ring and what was answered last, and the buffers for ring memory and desks: the most that a ring asks
+// for, since there is no heap.
 #[derive(Drop)]
 pub struct Program {
     pub reading: Reading,
@@ -70,7 +71,7 @@ impl Program {
         true
     }
 
-    // A part of the input: does what each byte asks for, and fills out with what is to be printed.
+    // A part of the input: does what each byte asks for, and fills out with what is to be printed, for which text.rt says what room it wants.
     #[tactic(auto, using(crate::specs::ProgramLaws::byte_by_byte))]
     pub(crate) fn feed_all(&mut self, text: &[u8], out: &mut Out)
         requires { LINE * length text.now ≤ ROOM }

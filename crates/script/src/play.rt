@@ -38,6 +38,7 @@ fn payload_of(kind: u8) -> [u8; 65536]
 
 // Makes the call of a line, with as much memory as the ring asks for. A new makes another ring; where it is refused, the old one stays.
 // Memory and desks are two slices for the reason at Ring::step, and longer than what is lent of them, since there is no heap.
+// A match on the line's own variants: closures would be no plainer.
 #[tactic(auto, unfolding(crate::specs::Play::answer_of, crate::specs::Play::memory_of, crate::specs::Play::desks_of))]
 fn call(ring: &mut Ring, line: Line, memory: &mut [u8], desks: &mut [u8]) -> Result<(), Refusal>
     ensures value { told result ring.new ≡ kept_of ring.old (answer_of ring.old line memory.old desks.old) }
@@ -90,7 +91,7 @@ impl Play {
         Play::Waiting
     }
 
-    // Does a line. The first one must be a new that is accepted; a bad line, which is none, ends the program.
+    // Does a line. The first one must be a new that is accepted; a bad line, which is none, ends the program. Two slices, as in call.
     #[tactic(auto, unfolding(crate::specs::Play::done_of, crate::specs::Play::done_memory, crate::specs::Play::done_desks))]
     pub fn does(&mut self, line: Option<Line>, memory: &mut [u8], desks: &mut [u8])
         ensures value { self.new ≡ done_of self.old line memory.old desks.old }

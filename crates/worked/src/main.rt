@@ -4,8 +4,8 @@
 
 use counts::position::Position;
 
-// Prints the bytes of a slice in hexadecimal, each followed by a space, and a line end. By the kit's io, which lets a write that fails
-// go: println! would end the program with another status.
+// Prints the bytes of a slice in hexadecimal, each followed by a space, and a line end. By the kit's io, which stops where a write fails or
+// a signal stops it: println! would try the latter once more, and what the program does stays.
 fn print_bytes(s: &[u8]) {
     for &b in s {
         io::print_hex(1, u64::from(b), 2);
