@@ -70,7 +70,7 @@ fn run(ring: &mut Ring, p: u32, payload: &[u8], events: u32, memory: &mut [u8], 
     print_line(sum(memory));
 }
 
-// The product of two numbers, or 0 where it is more than the given one.
+// The product of two numbers, or 0 where it is more than the given one: the ring then refuses each call, and what the program does stays.
 fn product(a: u32, b: u32, most: usize) -> usize
     ensures { result ≤ most }
 {
