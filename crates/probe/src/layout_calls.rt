@@ -27,7 +27,7 @@ pub extern "C" fn layout_run(part: &[u8], out: &mut [u8]) -> usize
     let run = parts::part::run(part);
     let n = run.len();
     if n <= out.len() {
-        out[..n].copy_from_slice(run);
+        layout::bytes::copy(run, &mut out[..n]);
     }
     n
 }

@@ -7,7 +7,7 @@ use Rattle.probe.proofs.layout_calls.layout_run.Goals as goal
 -- where it fits, its copy and what stood behind
 pub returns-then-n-out-clause-out_after : goal.returns-then-n-out-clause-out_after
 returns-then-n-out-clause-out_after c =
-    handed_copy _ c.args.out.now _ c.if-n-out.true c.copy_from_slice.ensures.after ∙ ap (λ (l : List ℕ). handed l c.args.out.now) c.run-run.ensures
+    handed_copy _ c.args.out.now _ c.if-n-out.true c.copy.ensures ∙ ap (λ (l : List ℕ). handed l c.args.out.now) c.run-run.ensures
 
 -- where the run does not fit, nothing is written
 pub returns-else-n-out-clause-out_after : goal.returns-else-n-out-clause-out_after
