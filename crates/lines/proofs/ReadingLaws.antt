@@ -8,7 +8,7 @@ use Rattle.std.proofs.Math.Path.{refl, ap}
 use Rattle.std.proofs.Common.{sym, subst, ◌∙◌, arith, rules}
 use native.Mathlib.Omega.{arith}
 use borrow.Author.Tests.{eq-eqb, ne_eqb, eqb-true, le-leb, lt-leb, lt-ltb, le-ltb, leb-true, leb-false}
-use Rattle.std.proofs.lemmas.Bool.{eqb-false, cond_both}
+use Rattle.std.proofs.lemmas.Bool.{cond_both}
 use Rattle.lines.specs.declared.line.Line.{Line}
 use Rattle.lines.specs.declared.line.Line.TheVariants as line
 use Rattle.lines.specs.declared.word.Word.{Word}
@@ -16,6 +16,7 @@ use Rattle.lines.specs.declared.word.Word.TheVariants.{New, Offer, Flush, Step, 
 use Rattle.lines.specs.declared.reading.Reading.{Reading}
 use Rattle.lines.specs.declared.reading.Reading.TheVariants.{Start, Letters, Numbers, Bad}
 use Rattle.lines.specs.Line.{first_field, later_fields, same, is_digit, all_digits, value_from, value_of, is_number, fit, number, most, form_of, line_of}
+use Rattle.lines.specs.Line.{word_new, word_offer, word_flush, word_step, word_run, word_get, word_put}
 use Rattle.lines.specs.Word.{word_from, text_of, numbers_of, limit_of}
 use Rattle.lines.proofs.FieldLaws.{eat, followed, by_fields, eat_bad, followed_bad, whole_of, followed_short}
 use Rattle.lines.specs.Reading.{start_of, is_empty_of, begun_of, first_of, is_next, letter_of, with_digit_of, number_or_bad, next_number_of, space_of, byte_of, take_of, bare_of, made_of, line_in, take_all}
@@ -202,13 +203,28 @@ abbrev Spells : Word → (i : ℕ) → List ℕ → Type 0
 Spells k i [] = (slice_get (text_of k) i ≡ None) × (eqb i (length (text_of k)) ≡ true)
 Spells k i (l ∷ ls) = (slice_get (text_of k) i ≡ Some l) × (eqb i (length (text_of k)) ≡ false) × Spells k (i + 1) ls
 
+-- nothing may follow the last letter
+letter_none : (k : Word) (b : ℕ) → byte_of (all_letters k) b ≡ Bad
+unfolding byte_of letter_of
+letter_none New b = refl
+letter_none Offer b = refl
+letter_none Flush b = refl
+letter_none Step b = refl
+letter_none Run b = refl
+letter_none Get b = refl
+letter_none Put b = refl
+
+letter_next : (k : Word) (i l b : ℕ) → slice_get (text_of k) i ≡ Some l → byte_of (Letters k i) b ≡ cond (eqb l b) (Letters k (i + 1)) Bad
+unfolding byte_of letter_of
+letter_next k i l b e = rw e
+
 -- the letters that are to come are read exactly by the same letters
 eat_letters : (k : Word) (i : ℕ) (ls : List ℕ) → Spells k i ls → (bs : List ℕ) → whole_of (eat (Letters k i) bs) ≡ same bs ls
-unfolding eat byte_of letter_of same
+unfolding eat same
 eat_letters k i [] h [] = h.1
 eat_letters k i (l ∷ ls) h [] = h.1
-eat_letters k i [] h (b ∷ bs) = rw h.0 (ap (λ (x : Reading). whole_of x) (eat_bad bs))
-eat_letters k i (l ∷ ls) h (b ∷ bs) = rw h.0 (go (eqb l b) (eat_letters k (i + 1) ls h.2 bs))
+eat_letters k i [] h (b ∷ bs) = rw (eqb-true i (length (text_of k)) h.1, letter_none k b) (ap (λ (x : Reading). whole_of x) (eat_bad bs))
+eat_letters k i (l ∷ ls) h (b ∷ bs) = rw (letter_next k i l b h.0) (go (eqb l b) (eat_letters k (i + 1) ls h.2 bs))
   where
     go : (t : Bool) → whole_of (eat (Letters k (i + 1)) bs) ≡ same bs ls → whole_of (eat (cond t (Letters k (i + 1)) Bad) bs) ≡ cond t (same bs ls) false
     go true next = next
@@ -222,6 +238,44 @@ same_true (x ∷ xs) [] e = absurd (no_true e)
 same_true (x ∷ xs) (y ∷ ys) e =
     let h = both_true (eqb y x) (same xs ys) e in
     λ i. sym (eqb-true y x h.0) i ∷ same_true xs ys h.1 i
+
+tail_differs : (b l : ℕ) (bs ls : List ℕ) → eqb b l ≡ true → same (b ∷ bs) (l ∷ ls) ≡ false → same bs ls ≡ false
+unfolding same
+tail_differs b l bs ls t e = sym (rw (eq-eqb l b (sym (eqb-true b l t)))) ∙ e
+
+-- a word that is none of the seven is not read whole
+no_word : (w : List ℕ) →
+    same w word_new ≡ false → same w word_offer ≡ false → same w word_flush ≡ false →
+    same w word_step ≡ false → same w word_run ≡ false → same w word_get ≡ false →
+    same w word_put ≡ false → whole_of (eat start_of w) ≡ false
+unfolding eat byte_of first_of
+no_word [] n1 n2 n3 n4 n5 n6 n7 = refl
+no_word (b ∷ bs) n1 n2 n3 n4 n5 n6 n7 =
+    go (eqb b 110) refl (eqb b 111) refl (eqb b 102) refl (eqb b 115) refl (eqb b 114) refl (eqb b 103) refl (eqb b 112) refl
+  where
+    found : (k : Word) (l : ℕ) (ls : List ℕ) → Spells k 1 ls → eqb b l ≡ true → same (b ∷ bs) (l ∷ ls) ≡ false →
+        whole_of (eat (Letters k 1) bs) ≡ false
+    found k l ls s t n = eat_letters k 1 ls s bs ∙ tail_differs b l bs ls t n
+
+    go : (t1 : Bool) → eqb b 110 ≡ t1 → (t2 : Bool) → eqb b 111 ≡ t2 → (t3 : Bool) → eqb b 102 ≡ t3 → (t4 : Bool) → eqb b 115 ≡ t4 →
+        (t5 : Bool) → eqb b 114 ≡ t5 → (t6 : Bool) → eqb b 103 ≡ t6 → (t7 : Bool) → eqb b 112 ≡ t7 →
+        whole_of (eat (begun_of
+        (cond t1 (Some New)
+        (cond t2 (Some Offer)
+        (cond t3 (Some Flush)
+        (cond t4 (Some Step)
+        (cond t5 (Some Run)
+        (cond t6 (Some Get)
+        (cond t7 (Some Put)
+        None)))))))) bs) ≡ false
+    go true e1 t2 e2 t3 e3 t4 e4 t5 e5 t6 e6 t7 e7 = found New 110 (101 ∷ 119 ∷ []) (search rules) e1 n1
+    go false e1 true e2 t3 e3 t4 e4 t5 e5 t6 e6 t7 e7 = found Offer 111 (102 ∷ 102 ∷ 101 ∷ 114 ∷ []) (search rules) e2 n2
+    go false e1 false e2 true e3 t4 e4 t5 e5 t6 e6 t7 e7 = found Flush 102 (108 ∷ 117 ∷ 115 ∷ 104 ∷ []) (search rules) e3 n3
+    go false e1 false e2 false e3 true e4 t5 e5 t6 e6 t7 e7 = found Step 115 (116 ∷ 101 ∷ 112 ∷ []) (search rules) e4 n4
+    go false e1 false e2 false e3 false e4 true e5 t6 e6 t7 e7 = found Run 114 (117 ∷ 110 ∷ []) (search rules) e5 n5
+    go false e1 false e2 false e3 false e4 false e5 true e6 t7 e7 = found Get 103 (101 ∷ 116 ∷ []) (search rules) e6 n6
+    go false e1 false e2 false e3 false e4 false e5 false e6 true e7 = found Put 112 (117 ∷ 116 ∷ []) (search rules) e7 n7
+    go false e1 false e2 false e3 false e4 false e5 false e6 false e7 = ap (λ (x : Reading). whole_of x) (eat_bad bs)
 
 -- ---- the line
 
@@ -277,57 +331,41 @@ offer_made fs e =
 none_made : (k : Word) (fs : List (List ℕ)) → fit [] fs ≡ true → line_from k fs ≡ bare_of k
 none_made k fs e = subst (λ (x : List (List ℕ)). line_from k x ≡ bare_of k) (sym (fit_none fs e)) refl
 
--- a word of which the first letter was read, and the fields behind it
-word_made : (k : Word) (ls : List ℕ) (line : Option Line) (fs : List (List ℕ)) → Spells k 1 ls → eat (Letters k 1) ls ≡ all_letters k →
-    (fit (limits_from (numbers_of k) k 0) fs ≡ true → line_from k fs ≡ line) → (bs : List ℕ) →
-    followed (eat (Letters k 1) bs) fs ≡ cond (same bs ls) (cond (fit (limits_from (numbers_of k) k 0) fs) line None) None
-word_made k ls line fs s r h bs = go (same bs ls) refl
-  where
-    go : (t : Bool) → same bs ls ≡ t → followed (eat (Letters k 1) bs) fs ≡ cond t (cond (fit (limits_from (numbers_of k) k 0) fs) line None) None
-    go true e =
-        ap (λ (x : List ℕ). followed (eat (Letters k 1) x) fs) (same_true bs ls e)
-        ∙ ap (λ (x : Reading). followed x fs) r
-        ∙ after_word k (numbers_of k) fs refl
-        ∙ when (fit (limits_from (numbers_of k) k 0) fs) (line_from k fs) line None h
-    go false e = followed_short (eat (Letters k 1) bs) fs (eat_letters k 1 ls s bs ∙ e)
+-- a whole word and the fields behind it
+word_made : (k : Word) (letters : List ℕ) (line : Option Line) (w : List ℕ) (fs : List (List ℕ)) → same w letters ≡ true →
+    eat start_of letters ≡ all_letters k → (fit (limits_from (numbers_of k) k 0) fs ≡ true → line_from k fs ≡ line) →
+    followed (eat start_of w) fs ≡ cond (fit (limits_from (numbers_of k) k 0) fs) line None
+word_made k letters line w fs e r h =
+    ap (λ (x : List ℕ). followed (eat start_of x) fs) (same_true w letters e)
+    ∙ ap (λ (x : Reading). followed x fs) r
+    ∙ after_word k (numbers_of k) fs refl
+    ∙ when (fit (limits_from (numbers_of k) k 0) fs) (line_from k fs) line None h
 
 by_word : (w : List ℕ) (fs : List (List ℕ)) → followed (eat start_of w) fs ≡ form_of w fs
-unfolding form_of same eat byte_of first_of letter_of
-by_word [] fs = followed_short Start fs refl
-by_word (b ∷ bs) fs =
-    go (eqb b 110) refl (eqb b 111) refl (eqb b 102) refl (eqb b 115) refl (eqb b 114) refl (eqb b 103) refl (eqb b 112) refl
+unfolding form_of eat byte_of first_of letter_of
+by_word w fs =
+    go (same w word_new) refl (same w word_offer) refl (same w word_flush) refl
+    (same w word_step) refl (same w word_run) refl (same w word_get) refl (same w word_put) refl
   where
-    Goal : ℕ → Type 0
-    Goal x = followed (eat start_of (x ∷ bs)) fs ≡ form_of (x ∷ bs) fs
-
-    -- a first letter
-    begins : (l : ℕ) → eqb b l ≡ true → Goal l → Goal b
-    begins l e h = subst Goal (sym (eqb-true b l e)) h
-
-    -- the letter of no word
-    other : (l : ℕ) → eqb b l ≡ false → eqb l b ≡ false
-    other l e = ne_eqb l b (λ q. eqb-false b l e (sym q))
-
-    go : (t1 : Bool) → eqb b 110 ≡ t1 → (t2 : Bool) → eqb b 111 ≡ t2 → (t3 : Bool) → eqb b 102 ≡ t3 → (t4 : Bool) → eqb b 115 ≡ t4 →
-        (t5 : Bool) → eqb b 114 ≡ t5 → (t6 : Bool) → eqb b 103 ≡ t6 → (t7 : Bool) → eqb b 112 ≡ t7 → Goal b
-    go true e1 t2 e2 t3 e3 t4 e4 t5 e5 t6 e6 t7 e7 =
-        begins 110 e1 (word_made New (101 ∷ 119 ∷ []) _ fs (search rules) refl (new_made fs) bs)
-    go false e1 true e2 t3 e3 t4 e4 t5 e5 t6 e6 t7 e7 =
-        begins 111 e2 (word_made Offer (102 ∷ 102 ∷ 101 ∷ 114 ∷ []) _ fs (search rules) refl (offer_made fs) bs)
-    go false e1 false e2 true e3 t4 e4 t5 e5 t6 e6 t7 e7 =
-        begins 102 e3 (word_made Flush (108 ∷ 117 ∷ 115 ∷ 104 ∷ []) _ fs (search rules) refl (one_made Flush line.Flush (λ v. refl) fs) bs)
-    go false e1 false e2 false e3 true e4 t5 e5 t6 e6 t7 e7 =
-        begins 115 e4 (word_made Step (116 ∷ 101 ∷ 112 ∷ []) _ fs (search rules) refl (one_made Step line.Step (λ v. refl) fs) bs)
-    go false e1 false e2 false e3 false e4 true e5 t6 e6 t7 e7 =
-        begins 114 e5 (word_made Run (117 ∷ 110 ∷ []) _ fs (search rules) refl (one_made Run line.Run (λ v. refl) fs) bs)
-    go false e1 false e2 false e3 false e4 false e5 true e6 t7 e7 =
-        begins 103 e6 (word_made Get (101 ∷ 116 ∷ []) _ fs (search rules) refl (none_made Get fs) bs)
-    go false e1 false e2 false e3 false e4 false e5 false e6 true e7 =
-        begins 112 e7 (word_made Put (117 ∷ 116 ∷ []) _ fs (search rules) refl (none_made Put fs) bs)
-    go false e1 false e2 false e3 false e4 false e5 false e6 false e7 =
-        rw (e1, e2, e3, e4, e5, e6, e7)
-        (rw (other 110 e1, other 111 e2, other 102 e3, other 115 e4, other 114 e5, other 103 e6, other 112 e7)
-        (ap (λ (x : Reading). followed x fs) (eat_bad bs) ∙ followed_bad fs))
+    go : (t1 : Bool) → same w word_new ≡ t1 → (t2 : Bool) → same w word_offer ≡ t2 →
+        (t3 : Bool) → same w word_flush ≡ t3 → (t4 : Bool) → same w word_step ≡ t4 →
+        (t5 : Bool) → same w word_run ≡ t5 → (t6 : Bool) → same w word_get ≡ t6 → (t7 : Bool) → same w word_put ≡ t7 →
+        followed (eat start_of w) fs
+        ≡ cond t1
+        (cond (fit (most ∷ most ∷ most ∷ most ∷ []) fs) (Some (line.New (number 0 fs) (number 1 fs) (number 2 fs) (number 3 fs))) None)
+        (cond t2 (cond (fit (most ∷ 255 ∷ 65535 ∷ []) fs) (Some (line.Offer (number 0 fs) (number 1 fs) (number 2 fs))) None)
+        (cond t3 (cond (fit (most ∷ []) fs) (Some (line.Flush (number 0 fs))) None)
+        (cond t4 (cond (fit (most ∷ []) fs) (Some (line.Step (number 0 fs))) None)
+        (cond t5 (cond (fit (most ∷ []) fs) (Some (line.Run (number 0 fs))) None)
+        (cond t6 (cond (fit [] fs) (Some line.Get) None) (cond t7 (cond (fit [] fs) (Some line.Put) None) None))))))
+    go true e1 t2 e2 t3 e3 t4 e4 t5 e5 t6 e6 t7 e7 = word_made New _ _ w fs e1 refl (new_made fs)
+    go false e1 true e2 t3 e3 t4 e4 t5 e5 t6 e6 t7 e7 = word_made Offer _ _ w fs e2 refl (offer_made fs)
+    go false e1 false e2 true e3 t4 e4 t5 e5 t6 e6 t7 e7 = word_made Flush _ _ w fs e3 refl (one_made Flush line.Flush (λ v. refl) fs)
+    go false e1 false e2 false e3 true e4 t5 e5 t6 e6 t7 e7 = word_made Step _ _ w fs e4 refl (one_made Step line.Step (λ v. refl) fs)
+    go false e1 false e2 false e3 false e4 true e5 t6 e6 t7 e7 = word_made Run _ _ w fs e5 refl (one_made Run line.Run (λ v. refl) fs)
+    go false e1 false e2 false e3 false e4 false e5 true e6 t7 e7 = word_made Get _ _ w fs e6 refl (none_made Get fs)
+    go false e1 false e2 false e3 false e4 false e5 false e6 true e7 = word_made Put _ _ w fs e7 refl (none_made Put fs)
+    go false e1 false e2 false e3 false e4 false e5 false e6 false e7 = followed_short (eat start_of w) fs (no_word w e1 e2 e3 e4 e5 e6 e7)
 
 -- read byte by byte, a text gives the line that it is
 pub reads : (text : List ℕ) → line_in (take_all start_of text) ≡ line_of text
