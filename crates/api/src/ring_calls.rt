@@ -19,7 +19,7 @@ pub extern "C" fn waxbramble_fresh(size: u32, parts: u32, producers: u32, start:
 // The event goes to the producer's desk.
 #[unsafe(no_mangle)]
 pub extern "C" fn waxbramble_offer(
-    mut r: Ring,
+    r: Ring,
     p: u32,
     kind: u8,
     payload: &[u8],
@@ -28,24 +28,24 @@ pub extern "C" fn waxbramble_offer(
     ensures value { result ≡ offer_of r p (length payload.now) (length desks.old) }
     ensures desks_after { desks.new ≡ offer_bytes r p kind payload.now desks.old }
 {
-    Answer::of(r.offer(p, kind, payload, desks), r)
+    r.after_offer(p, kind, payload, desks)
 }
 
 // A flush of the newest sub-buffer.
 #[unsafe(no_mangle)]
-pub extern "C" fn waxbramble_flush(mut r: Ring, p: u32) -> Answer
+pub extern "C" fn waxbramble_flush(r: Ring, p: u32) -> Answer
     ensures { result ≡ flush_of r p }
 {
-    Answer::of(r.flush(p), r)
+    r.after_flush(p)
 }
 
 // One step of producer p.
 #[unsafe(no_mangle)]
-pub extern "C" fn waxbramble_step(mut r: Ring, p: u32, ring: &mut [u8], desks: &[u8]) -> Answer
+pub extern "C" fn waxbramble_step(r: Ring, p: u32, ring: &mut [u8], desks: &[u8]) -> Answer
     ensures value { result ≡ step_of r p (length ring.old) (length desks.now) }
     ensures ring_after { ring.new ≡ step_bytes r p ring.old desks.now }
 {
-    Answer::of(r.step(p, ring, desks), r)
+    r.after_step(p, ring, desks)
 }
 
 // Steps of producer p until it is idle.
@@ -59,18 +59,18 @@ pub extern "C" fn waxbramble_run(mut r: Ring, p: u32, ring: &mut [u8], desks: &[
 
 // Holds the sub-buffer at the read count.
 #[unsafe(no_mangle)]
-pub extern "C" fn waxbramble_get(mut r: Ring) -> Answer
+pub extern "C" fn waxbramble_get(r: Ring) -> Answer
     ensures { result ≡ get_of r }
 {
-    Answer::of(r.get(), r)
+    r.after_get()
 }
 
 // Moves the read count on, and holds nothing.
 #[unsafe(no_mangle)]
-pub extern "C" fn waxbramble_put(mut r: Ring) -> Answer
+pub extern "C" fn waxbramble_put(r: Ring) -> Answer
     ensures { result ≡ put_of r }
 {
-    Answer::of(r.put(), r)
+    r.after_put()
 }
 
 // Where the held sub-buffer stands in ring memory of the given length: from start to end, 0 to 0 if nothing is held.
