@@ -1,9 +1,7 @@
 -- What a line prints (document 01, "The replay program"): answer, write, read, offered, written, lost, or `bad line`.
 use Rattle.std.specs.Prelude.{ℕ, zero, suc, ◌+◌, ◌/◌, ◌%◌, cond, List, [], ◌∷◌, ◌++◌, eqb, ltb}
-use Rattle.ring.specs.Told.{code_told}
 use Rattle.script.specs.declared.play.Play.{Play}
-use Rattle.script.specs.declared.play.Play.TheVariants.{Waiting, Going, Over}
-use Rattle.script.specs.Play.{ring_of, over}
+use Rattle.script.specs.Play.{over, code_in, ring_of}
 
 -- a number in decimal, of k digits at most, with no zero in front
 unfoldable pub decimal_by : (k n : ℕ) → List ℕ
@@ -23,12 +21,7 @@ unfoldable pub joined : (i : ℕ) → List ℕ → List ℕ
 joined i [] = []
 joined i (n ∷ ns) = (decimal_of n ++ (end_of i ∷ [])) ++ joined (suc i) ns
 
--- what a play's last line was answered, and the counts of its ring; before the first line all are zero
-abbrev pub code_in : Play → ℕ
-code_in Waiting = 0
-code_in (Going r answer) = code_told answer
-code_in Over = 0
-
+-- what the last line was answered, and the counts of the ring; before the first line all are zero
 abbrev pub numbers_told : Play → List ℕ
 numbers_told p =
     let r = ring_of p in code_in p ∷ r.write.0 ∷ r.read.0 ∷ r.offered ∷ r.written ∷ r.lost ∷ []

@@ -16,7 +16,7 @@ const DESKS: usize = 32768;
 
 // The line that is being read, the ring and what was answered last, and the buffers for ring memory and desks: the most that a ring asks
 // for, since there is no heap.
-#[derive(Drop)]
+#[derive(Clone, Copy, Debug, PartialEq, Eq)]
 pub struct Program {
     pub reading: Reading,
     pub play: Play,
@@ -41,7 +41,7 @@ impl Program {
     pub(crate) fn is_over(&self) -> bool
         ensures { result ≡ over self.now.play }
     {
-        matches!(self.play, Play::Over)
+        matches!(self.play, Play::Over { .. })
     }
 
     // Does the line that was read.

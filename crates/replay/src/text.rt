@@ -80,6 +80,6 @@ pub(crate) fn tell(play: &Play, out: &mut Out)
     match play {
         Play::Waiting => put_numbers(out, [0; 6]),
         Play::Going { ring, answer } => put_numbers(out, numbers(ring, *answer)),
-        Play::Over => out.push_str("bad line\n"),
+        Play::Over { .. } => out.push_str("bad line\n"),
     }
 }

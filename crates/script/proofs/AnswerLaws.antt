@@ -1,6 +1,8 @@
 -- What a play says that it was answered is the number of document 01 that its line's call answers.
-use Rattle.std.specs.Prelude.{ℕ, Bool, true, false, cond, List, ◌≡◌, ◌==◌, refl, nat_lt, ◌&&◌}
+use Rattle.std.specs.Prelude.{ℕ, Bool, true, false, cond, List, ◌≡◌, ◌==◌, refl, nat_lt, ◌&&◌, Some, Result}
+use Rattle.std.proofs.Common.{ap, ◌∙◌}
 use Rattle.counts.specs.Shape.{shape_of}
+use Rattle.ring.specs.declared.refusal.Refusal.{Refusal}
 use Rattle.ring.specs.declared.state.Ring.{Ring}
 use Rattle.ring.specs.Refusals.{first, known_of, fresh_refusal, offer_refusal, flush_refusal, step_refusal, get_refusal, put_refusal}
 use Rattle.ring.specs.Calls.{fresh_of, offer_of, flush_of, step_of, get_of, put_of}
@@ -8,7 +10,9 @@ use Rattle.ring.specs.Told.{code_told}
 use Rattle.runs.specs.Run.{run_of}
 use Rattle.lines.specs.declared.line.Line.{Line}
 use Rattle.lines.specs.declared.line.Line.TheVariants.{New, Offer, Flush, Step, Run, Get, Put}
-use Rattle.script.specs.Play.{answer_of, answer_at}
+use Rattle.script.specs.declared.play.Play.{Play}
+use Rattle.script.specs.Play.{answer_of, last_of, code_in, answer_at, done_of}
+use Rattle.script.specs.PlayLaws.{done_made}
 
 -- 0, or a refusal's number
 abbrev Named : ℕ → Type 0
@@ -44,3 +48,8 @@ answer_named r (Step p) memory desks = step_named r p _ _
 answer_named r (Run p) memory desks = step_named r p _ _
 answer_named r Get memory desks = choice _ _ 1 (choice _ 8 _ refl (choice _ 0 7 refl refl)) refl
 answer_named r Put memory desks = choice _ _ 1 (choice _ 0 9 refl refl) refl
+
+-- so a ring's line is told by that number
+pub done_named : (p : Play) (r : Ring) (answer : Result Unit Refusal) (line : Line) (memory desks : List ℕ) → last_of p ≡ Some (r, answer) →
+    code_in (done_of p (Some line) memory desks) ≡ (answer_of r line memory desks).code
+done_named p r answer line memory desks e = ap code_in (done_made p line memory desks r answer e) ∙ answer_named r line memory desks

@@ -17,8 +17,7 @@ use Rattle.steps.specs.Producer.{starts}
 use Rattle.lines.specs.declared.line.Line.{Line}
 use Rattle.lines.specs.declared.line.Line.TheVariants.{New, Offer, Flush, Step, Run, Get, Put}
 use Rattle.script.specs.declared.play.Play.{Play}
-use Rattle.script.specs.declared.play.Play.TheVariants.{Waiting, Going, Over}
-use Rattle.script.specs.Play.{memory_lent, desks_lent, answer_of, start_play, begun, ring_of, play_of, allowed, answered_of, done_of}
+use Rattle.script.specs.Play.{memory_lent, desks_lent, answer_of, start_play, begun, ring_of, play_of, allowed, ended_of, answered_of, done_of}
 use Rattle.lines.proofs.ReadingLaws.{no_true}
 
 abbrev pub shape_at : Ring → Bool
@@ -94,29 +93,25 @@ call_right Put p m d h a e = put_shape (ring_of p) ∙ h a
 
 answered_right : (p : Play) (a : Answer) → Right p → (a.code ≡ 0 → shape_at a.ring ≡ true) → Right (answered_of p a)
 unfolding answered_of
-answered_right Waiting a h k = go (a.code == 0) refl
+answered_right p a h k = go (a.code == 0) refl (begun p) refl
   where
-    go : (t : Bool) → (a.code == 0) ≡ t → Right (cond t (play_of a) Over)
-    go true e = λ _. k (eqb-true a.code 0 e)
-    go false e = λ f. absurd (no_true f)
-answered_right (Going r answer) a h k = go (a.code == 0) refl
-  where
-    go : (t : Bool) → (a.code == 0) ≡ t → Right (play_of (says a.code (cond t a.ring r)))
-    go true e = λ _. k (eqb-true a.code 0 e)
-    go false e = h
-answered_right Over a h k = h
+    go : (t : Bool) → (a.code == 0) ≡ t → (u : Bool) → begun p ≡ u →
+        Right (cond t (play_of (says 0 a.ring)) (cond u (play_of (says a.code (ring_of p))) (ended_of p)))
+    go true e u f = λ _. k (eqb-true a.code 0 e)
+    go false e true f = λ _. h f
+    go false e false f = h
 
 pub start_right : Right start_play
 start_right e = absurd (no_true e)
 
 pub done_right : (p : Play) (line : Option Line) (m d : List ℕ) → Right p → Right (done_of p line m d)
 unfolding done_of
-done_right p None m d h = λ f. absurd (no_true f)
+done_right p None m d h = h
 done_right p (Some line) m d h = go (allowed (begun p) line) refl
   where
-    go : (t : Bool) → allowed (begun p) line ≡ t → Right (cond t (answered_of p (answer_of (ring_of p) line m d)) Over)
+    go : (t : Bool) → allowed (begun p) line ≡ t → Right (cond t (answered_of p (answer_of (ring_of p) line m d)) (ended_of p))
     go true a = answered_right p (answer_of (ring_of p) line m d) h (call_right line p m d h a)
-    go false a = λ f. absurd (no_true f)
+    go false a = h
 
 -- ---- what is lent to its calls: S-as-N bytes of ring memory, P-as-S of desks
 

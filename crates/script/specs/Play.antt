@@ -1,5 +1,5 @@
 -- Doing a line (document 01, "The replay program").
-use Rattle.std.specs.Prelude.{ℕ, ◌*◌, Bool, true, false, cond, List, [], ◌∷◌, ◌++◌, ◌==◌, length, take, drop, find, replicate, Option, Some, None, Result, Ok, Err}
+use Rattle.std.specs.Prelude.{ℕ, ◌*◌, Bool, true, false, cond, List, [], ◌∷◌, ◌++◌, ◌==◌, length, take, drop, find, replicate, Option, Some, None, is_some, Result, Ok, Err}
 use Rattle.std.specs.Option.{option_map_or}
 use Rattle.counts.specs.Position.{position}
 use Rattle.ring.specs.declared.refusal.Refusal.{Refusal}
@@ -8,8 +8,8 @@ use Rattle.ring.specs.declared.state.Answer.{Answer}
 use Rattle.ring.specs.declared.state.Ring.{Ring}
 use Rattle.runs.specs.Run.{run_of, run_bytes}
 use Rattle.ring.specs.Calls.{answered, fresh_of, offer_of, offer_bytes, flush_of, step_of, step_bytes, get_of, put_of}
-use Rattle.ring.specs.State.{zeros}
-use Rattle.ring.specs.Told.{number_of}
+use Rattle.ring.specs.State.{zeros, says}
+use Rattle.ring.specs.Told.{number_of, code_told}
 use Rattle.lines.specs.declared.line.Line.{Line}
 use Rattle.lines.specs.declared.line.Line.TheVariants.{New, Offer, Flush, Step, Run, Get, Put}
 use Rattle.script.specs.declared.play.Play.{Play}
@@ -59,21 +59,27 @@ desks_of r Put desks = desks
 abbrev pub start_play : Play
 start_play = Waiting
 
--- whether a ring was made; the ring, all zeros before that; whether a bad line has ended the program
-abbrev pub begun : Play → Bool
-begun Waiting = false
-begun (Going r answer) = true
-begun Over = false
+-- the ring that was made, and what its last line was answered; a bad line that has ended the program leaves them
+abbrev pub last_of : Play → Option (Ring × Result Unit Refusal)
+last_of Waiting = None
+last_of (Going r answer) = Some (r, answer)
+last_of (Over last) = last
 
-abbrev pub ring_of : Play → Ring
-ring_of Waiting = zeros
-ring_of (Going r answer) = r
-ring_of Over = zeros
+-- whether a ring was made; whether a bad line has ended the program; what the last line was answered, 0 before a ring is made; the ring,
+-- all zeros before that
+abbrev pub begun : Play → Bool
+begun p = is_some (last_of p)
 
 abbrev pub over : Play → Bool
 over Waiting = false
 over (Going r answer) = false
-over Over = true
+over (Over last) = true
+
+abbrev pub code_in : Play → ℕ
+code_in p = option_map_or (λ l. code_told l.1) (last_of p) 0
+
+abbrev pub ring_of : Play → Ring
+ring_of p = option_map_or (λ l. l.0) (last_of p) zeros
 
 -- what was answered where document 01 has a number: 0 for done, or the refusal's
 abbrev pub refusals : List Refusal
@@ -100,16 +106,26 @@ allowed begun Put = begun
 abbrev pub kept_of : Ring → Answer → Answer
 kept_of r a = answered a.code a.ring r
 
--- a refused first new ends the program
-unfoldable pub answered_of : Play → Answer → Play
-answered_of Waiting a = cond (a.code == 0) (play_of a) Over
-answered_of (Going r answer) a = play_of (kept_of r a)
-answered_of Over a = Over
+-- a bad line, which is none, ends the program, and what stood before it stays
+abbrev pub ended_of : Play → Play
+ended_of p = Over (last_of p)
 
--- a bad line, which is none, ends the program
+-- a play that a bad line ended goes on from what stood; any other is left as it is
+abbrev pub resumed_of : Play → Play
+resumed_of p = option_map_or (λ l. Going l.0 l.1) (last_of p) Waiting
+
+-- a first new makes a ring, or else is a bad line
+abbrev pub begun_by : Option Ring → Play
+begun_by None = ended_of start_play
+begun_by (Some r) = play_of (says 0 r)
+
+-- a refused call keeps the old ring; a refused first new ends the program
+unfoldable pub answered_of : Play → Answer → Play
+answered_of p a = cond (a.code == 0) (play_of (says 0 a.ring)) (cond (begun p) (play_of (says a.code (ring_of p))) (ended_of p))
+
 unfoldable pub done_of : Play → Option Line → (memory desks : List ℕ) → Play
-done_of p None memory desks = Over
-done_of p (Some line) memory desks = cond (allowed (begun p) line) (answered_of p (answer_of (ring_of p) line memory desks)) Over
+done_of p None memory desks = ended_of p
+done_of p (Some line) memory desks = cond (allowed (begun p) line) (answered_of p (answer_of (ring_of p) line memory desks)) (ended_of p)
 
 unfoldable pub done_memory : Play → Option Line → (memory desks : List ℕ) → List ℕ
 done_memory p None memory desks = memory

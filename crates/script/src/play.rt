@@ -1,7 +1,8 @@
 // Doing a line: the state of the program, and what a line makes of it, of ring memory and of the desks.
 ghost use Rattle.std.specs.Prelude.{[], ◌≡◌, ◌*◌, Some, min, replicate};
 ghost use Rattle.ring.specs.Told.{told};
-ghost use Rattle.script.specs.Play.{answer_of, memory_of, desks_of, start_play, kept_of, done_of, done_memory, done_desks};
+ghost use Rattle.script.specs.Play.{answer_of, memory_of, desks_of, start_play, last_of, begun_by, kept_of, ended_of, resumed_of};
+ghost use Rattle.script.specs.Play.{done_of, done_memory, done_desks};
 
 use counts::position::Position;
 use lines::line::Line;
@@ -18,8 +19,10 @@ pub enum Play {
         ring: Ring,
         answer: Result<(), Refusal>,
     },
-    // A bad line has ended the program.
-    Over,
+    // A bad line has ended the program. What stood before it stays: of a ring that was made, its state and what was answered last.
+    Over {
+        last: Option<(Ring, Result<(), Refusal>)>,
+    },
 }
 
 // How many bytes of a buffer are lent: a times b, or all of them where it has fewer.
@@ -66,20 +69,16 @@ fn call(ring: &mut Ring, line: Line, memory: &mut [u8], desks: &mut [u8]) -> Res
     }
 }
 
-// What the first line makes: it must be a new that is accepted.
+// The ring that the first line makes: it must be a new that is accepted.
 #[tactic(auto, unfolding(crate::specs::Play::done_of))]
-fn first(line: Line) -> Play
-    ensures { result ≡ done_of Play.Waiting (Some line) [] [] }
+fn first(line: Line) -> Option<Ring>
+    ensures { begun_by result ≡ done_of Play.Waiting (Some line) [] [] }
 {
-    let Line::New(size, parts, producers, start) = line else {
-        return Play::Over;
-    };
-    match Ring::fresh(size, parts, producers, Position(start)) {
-        Ok(ring) => Play::Going {
-            ring,
-            answer: Ok(()),
-        },
-        Err(_) => Play::Over,
+    match line {
+        Line::New(size, parts, producers, start) => {
+            Ring::fresh(size, parts, producers, Position(start)).ok()
+        }
+        _ => None,
     }
 }
 
@@ -91,21 +90,58 @@ impl Play {
         Play::Waiting
     }
 
-    // Does a line. The first one must be a new that is accepted; a bad line, which is none, ends the program. Two slices, as in call.
-    #[tactic(auto, unfolding(crate::specs::Play::done_of, crate::specs::Play::done_memory, crate::specs::Play::done_desks))]
+    // The ring that was made, and what its last line's call was answered.
+    fn last(&self) -> Option<(Ring, Result<(), Refusal>)>
+        ensures { result ≡ last_of self.now }
+    {
+        match *self {
+            Play::Waiting => None,
+            Play::Going { ring, answer } => Some((ring, answer)),
+            Play::Over { last } => last,
+        }
+    }
+
+    // A bad line ends the program, and what stood before it stays.
+    fn end(&mut self)
+        ensures { self.new ≡ ended_of self.old }
+    {
+        *self = Play::Over { last: self.last() };
+    }
+
+    // A play that a bad line ended goes on from what stood; any other is left as it is.
+    fn resume(&mut self)
+        ensures { self.new ≡ resumed_of self.old }
+    {
+        if let Play::Over { last } = *self {
+            *self = match last {
+                Some((ring, answer)) => Play::Going { ring, answer },
+                None => Play::Waiting,
+            };
+        }
+    }
+
+    // Does a line. The first one must be a new that is accepted; a bad line, which is none, ends the program. A line given even then is done
+    // on what stood, as if no bad one had come; a refused call does not end it. Two slices, as in call.
+    #[tactic(auto, unfolding(crate::specs::Play::done_of, crate::specs::Play::done_memory, crate::specs::Play::done_desks), using(crate::specs::PlayLaws::play_called, crate::specs::PlayLaws::done_begun, crate::proofs::FirstLaws::first_line))]
     pub fn does(&mut self, line: Option<Line>, memory: &mut [u8], desks: &mut [u8])
         ensures value { self.new ≡ done_of self.old line memory.old desks.old }
         ensures memory_after { memory.new ≡ done_memory self.old line memory.old desks.old }
         ensures desks_after { desks.new ≡ done_desks self.old line desks.old }
     {
         let Some(line) = line else {
-            *self = Play::Over;
+            self.end();
             return;
         };
-        match self {
-            Play::Waiting => *self = first(line),
-            Play::Going { ring, answer } => *answer = call(ring, line, memory, desks),
-            Play::Over => {}
+        self.resume();
+        if let Play::Going { ring, answer } = self {
+            *answer = call(ring, line, memory, desks);
+        } else if let Some(ring) = first(line) {
+            *self = Play::Going {
+                ring,
+                answer: Ok(()),
+            };
+        } else {
+            self.end();
         }
     }
 }
